@@ -1,0 +1,32 @@
+-- The words for lists of sites and of streets.
+-- Assumes nothing.
+use Prim.Native.Nat.{ℕ, _+_}
+use mathlib.Core.Bool.{Bool, true, false, not, _&&_, _||_}
+use mathlib.Core.List.{List, [], _∷_}
+use lib.Dec.{eqb}
+use lib.ListN.{getD}
+use Rattle.counting.specs.Words.{one}
+
+-- what stands at an index, counted from 0
+abbrev pub at : List ℕ → ℕ → ℕ
+at list i = getD list i 0
+
+-- whether a number stands in a list
+abbrev pub has : ℕ → List ℕ → Bool
+has a [] = false
+has a (b ∷ list) = eqb a b || has a list
+
+-- whether no number stands in a list twice
+abbrev pub distinct : List ℕ → Bool
+distinct [] = true
+distinct (a ∷ list) = not (has a list) && distinct list
+
+-- how often a number stands in a list
+unfoldable pub count : List ℕ → ℕ → ℕ
+count [] a = 0
+count (b ∷ list) a = one (eqb b a) + count list a
+
+-- the sum of f over a list
+abbrev pub sum : (ℕ → ℕ) → List ℕ → ℕ
+sum f [] = 0
+sum f (a ∷ list) = f a + sum f list

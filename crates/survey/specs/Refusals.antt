@@ -1,0 +1,89 @@
+-- What is turned down in a survey, by document 01's numbers. Each definition gives the first number that applies, and 0 where none does.
+-- Assumes nothing.
+use Prim.Native.Nat.{ℕ, _*_, _-_, _%_}
+use mathlib.Core.Bool.{Bool, not, _&&_}
+use mathlib.Core.List.{List}
+use lib.Dec.{ltb, eqb}
+use lib.ListN.{length, take}
+use Rattle.counting.specs.Words.{_when_, _unless_, _orElse_, firstOf, outside}
+use Rattle.counting.specs.Lists.{at, has}
+use Rattle.survey.specs.Rows.{rowOf}
+
+-- the bounds of a survey: streets, sites, and the greatest score
+abbrev pub mostStreets : ℕ
+mostStreets = 400
+
+abbrev pub mostSites : ℕ
+mostSites = 64
+
+abbrev pub topScore : ℕ
+topScore = 1000
+
+-- 1: the number of streets
+abbrev pub streetsRefusal : ℕ → ℕ
+streetsRefusal n = 1 when outside n 1 mostStreets
+
+-- 2: the number of sites
+abbrev pub sitesRefusal : ℕ → ℕ
+sitesRefusal m = 2 when outside m 1 mostSites
+
+-- 3: the number of chosen sites, or the length of a given list of sites
+abbrev pub chosenRefusal : ℕ → ℕ → ℕ
+chosenRefusal k m = 3 when outside k 1 m
+
+-- 4: the kind of plan, 0 free and 1 balanced
+abbrev pub kindRefusal : ℕ → ℕ
+kindRefusal kind = 4 when ltb 1 kind
+
+-- 5: the number of chosen sites does not divide the number of streets
+abbrev pub shareRefusal : ℕ → ℕ → ℕ
+shareRefusal n k = 5 unless eqb (n % k) 0
+
+-- 6: a lent buffer of other than its exact length
+abbrev pub lengthRefusal : ℕ → ℕ → ℕ
+lengthRefusal given due = 6 unless eqb given due
+
+-- 8: the score at i is above 1,000 or above the one before
+abbrev pub scoreRefusal : List ℕ → ℕ → ℕ
+scoreRefusal scores i =
+    8 when ltb topScore (at scores i) orElse
+    8 when (ltb 0 i && ltb (at scores (i - 1)) (at scores i))
+
+-- the scores, in their order
+abbrev pub scoresRefusal : List ℕ → ℕ
+scoresRefusal scores = firstOf (length scores) (scoreRefusal scores)
+
+-- 9, 10, 11: a byte of a row, where a zero and where the same byte stands before it
+abbrev pub siteRefusal : ℕ → Bool → Bool → ℕ → ℕ
+siteRefusal m ended again b =
+    (9 when ended orElse
+    10 when ltb m b orElse
+    11 when again) unless eqb b 0
+
+-- the byte at the index j of a row
+abbrev pub byteRefusal : ℕ → List ℕ → ℕ → ℕ
+byteRefusal m row j = siteRefusal m (has 0 (take j row)) (has (at row j) (take j row)) (at row j)
+
+-- a row, byte by byte
+abbrev pub rowRefusal : ℕ → List ℕ → ℕ
+rowRefusal m row = firstOf (length row) (byteRefusal m row)
+
+-- the row of the street i
+abbrev pub streetRefusal : ℕ → List ℕ → ℕ → ℕ
+streetRefusal m rows i = rowRefusal m (rowOf m rows i)
+
+-- the rows, by street and byte
+abbrev pub rowsRefusal : ℕ → ℕ → List ℕ → ℕ
+rowsRefusal n m rows = firstOf n (streetRefusal m rows)
+
+-- a survey with k sites to be chosen, in document 01's order; `own` is what a call tries besides between 3 and 8: 4, 5, and 6 for its other buffers
+abbrev pub surveyRefusal : ℕ → ℕ → ℕ → ℕ → List ℕ → List ℕ → ℕ
+surveyRefusal n m k own scores rows =
+    streetsRefusal n orElse
+    sitesRefusal m orElse
+    chosenRefusal k m orElse
+    own orElse
+    lengthRefusal (length scores) m orElse
+    lengthRefusal (length rows) (n * m) orElse
+    scoresRefusal scores orElse
+    rowsRefusal n m rows

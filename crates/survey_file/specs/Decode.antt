@@ -1,0 +1,130 @@
+-- Reading a survey file, in document 01's order of tries. A record is defined over all bytes from its mark on, so its fields stand at
+-- fixed indices: the mark at 0, the first field at 2.
+-- Assumes nothing.
+use Prim.Native.Nat.{ℕ, zero, suc, _+_, _-_, _*_}
+use mathlib.Core.Bool.{Bool}
+use mathlib.Core.List.{List, _++_}
+use lib.Dec.{ltb, eqb}
+use lib.ListN.{length, take, drop, replicate}
+use Rattle.counting.specs.Words.{_when_, _unless_, _orElse_, firstOf, outside}
+use Rattle.counting.specs.Lists.{at, has}
+use Rattle.counting.specs.Buffers.{joined, listOf}
+use Rattle.survey.specs.Refusals.{streetsRefusal, sitesRefusal, chosenRefusal, kindRefusal, scoresRefusal}
+use Rattle.survey_file.specs.Encode.{townMark, scoresMark, streetMark, endMark}
+
+-- the 16-bit number at an index, low byte first
+abbrev pub wordAt : List ℕ → ℕ → ℕ
+wordAt bytes i = at bytes i + 256 * at bytes (i + 1)
+
+-- 12: the bytes end before so many
+abbrev pub shortRefusal : List ℕ → ℕ → ℕ
+shortRefusal rest size = 12 when ltb (length rest) size
+
+-- 12, 13: the mark
+abbrev pub markRefusal : ℕ → List ℕ → ℕ
+markRefusal due rest = shortRefusal rest 2 orElse 13 unless eqb (wordAt rest 0) due
+
+-- TN: n, m, K and kind
+abbrev pub townFields : List ℕ → ℕ
+townFields rest =
+    shortRefusal rest 7 orElse
+    streetsRefusal (wordAt rest 2) orElse
+    sitesRefusal (at rest 4) orElse
+    chosenRefusal (at rest 5) (at rest 4) orElse
+    kindRefusal (at rest 6)
+
+-- the m scores of SC
+abbrev pub scoresIn : ℕ → List ℕ → List ℕ
+scoresIn m rest = listOf m (λ i. wordAt rest (2 + 2 * i))
+
+-- SC: the scores
+abbrev pub scoresFields : ℕ → List ℕ → ℕ
+scoresFields m rest = shortRefusal rest (2 + 2 * m) orElse scoresRefusal (scoresIn m rest)
+
+-- the list of ST
+abbrev pub listIn : List ℕ → List ℕ
+listIn rest = take (at rest 4) (drop 5 rest)
+
+-- 10, 11: a byte of a list, after the bytes before it; 0 is no site in a file
+abbrev pub byteField : ℕ → List ℕ → ℕ → ℕ
+byteField m list j = 10 when outside (at list j) 1 m orElse 11 when has (at list j) (take j list)
+
+-- ST: the street's number, the length, and the list
+abbrev pub streetFields : ℕ → ℕ → List ℕ → ℕ
+streetFields m number rest =
+    shortRefusal rest 5 orElse
+    14 unless eqb (wordAt rest 2) number orElse
+    15 when ltb m (at rest 4) orElse
+    shortRefusal rest (5 + at rest 4) orElse
+    firstOf (length (listIn rest)) (byteField m (listIn rest))
+
+-- EN: nothing follows
+abbrev pub endFields : List ℕ → ℕ
+endFields rest = 16 when ltb 2 (length rest)
+
+-- what is left of the street records once i of them are read
+unfoldable pub past : List ℕ → ℕ → List ℕ
+past streets zero = streets
+past streets (suc i) = drop (5 + at (past streets i) 4) (past streets i)
+
+-- the record of the street i, counted from 0
+abbrev pub streetRecord : ℕ → List ℕ → ℕ → ℕ
+streetRecord m streets i =
+    markRefusal streetMark (past streets i) orElse
+    streetFields m (suc i) (past streets i)
+
+-- the street records, and the end behind them
+abbrev pub streetsAndEnd : ℕ → ℕ → List ℕ → ℕ
+streetsAndEnd n m streets =
+    firstOf n (streetRecord m streets) orElse
+    markRefusal endMark (past streets n) orElse
+    endFields (past streets n)
+
+-- the fields of TN, and where SC and the street records begin
+abbrev pub streetsIn : List ℕ → ℕ
+streetsIn file = wordAt file 2
+
+abbrev pub sitesIn : List ℕ → ℕ
+sitesIn file = at file 4
+
+abbrev pub chosenIn : List ℕ → ℕ
+chosenIn file = at file 5
+
+abbrev pub kindIn : List ℕ → ℕ
+kindIn file = at file 6
+
+abbrev pub scoresPart : List ℕ → List ℕ
+scoresPart file = drop 7 file
+
+abbrev pub streetsPart : List ℕ → List ℕ
+streetsPart file = drop (9 + 2 * sitesIn file) file
+
+-- the first refusal of a file, record by record
+unfoldable pub fileRefusal : List ℕ → ℕ
+fileRefusal file =
+    (markRefusal townMark file orElse townFields file) orElse
+    (markRefusal scoresMark (scoresPart file) orElse scoresFields (sitesIn file) (scoresPart file)) orElse
+    streetsAndEnd (streetsIn file) (sitesIn file) (streetsPart file)
+
+-- the row that a street's record gives: its list, then zeros
+abbrev pub rowFrom : ℕ → List ℕ → List ℕ
+rowFrom m rest = listIn rest ++ replicate (m - length (listIn rest)) 0
+
+-- the rows of a file
+abbrev pub rowsIn : List ℕ → List ℕ
+rowsIn file = joined (streetsIn file) (λ i. rowFrom (sitesIn file) (past (streetsPart file) i))
+
+-- what reading gives: a survey with its kind, or a refusal's number
+pub data Decoded : Type 0 where
+  Given : ℕ → ℕ → ℕ → ℕ → List ℕ → List ℕ → Decoded
+  Refused : ℕ → Decoded
+
+abbrev pub givenUnless : ℕ → Decoded → Decoded
+givenUnless zero given = given
+givenUnless (suc x) given = Refused (suc x)
+
+unfoldable pub decode : List ℕ → Decoded
+unfolding fileRefusal
+decode file =
+    givenUnless (fileRefusal file)
+    (Given (streetsIn file) (sitesIn file) (chosenIn file) (kindIn file) (scoresIn (sitesIn file) (scoresPart file)) (rowsIn file))

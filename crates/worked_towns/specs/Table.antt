@@ -1,0 +1,209 @@
+-- Document 01's worked surveys P1 to P8, and lines that would notice a wrong definition where those eight do not.
+-- Assumes nothing.
+use Prim.Native.Nat.{ℕ}
+use mathlib.Core.List.{List, [], _∷_, _++_}
+use lib.ListN.{replicate, set, take}
+use Rattle.counting.specs.Buffers.{joined}
+use Rattle.worked_towns.specs.Lines.{Town, Line, town, Check, RowScore, ListTotal, FreeDivision, BalancedDivision, FreePlan, BalancedPlan, Rounds, Floor, Places, FreeHand, BalancedHand, Bound, File, Read, Write, blank}
+
+-- P1, also P2; with K 3 it is P7
+abbrev pub p1 : ℕ → Town
+p1 k = town 4 3 k (2 ∷ 1 ∷ 0 ∷ []) (1 ∷ 2 ∷ 3 ∷ 1 ∷ 3 ∷ 2 ∷ 2 ∷ 1 ∷ 0 ∷ 3 ∷ 2 ∷ 1 ∷ [])
+
+-- P3, also P4
+abbrev pub p3 : Town
+p3 = town 6 3 2 (1 ∷ 1 ∷ 0 ∷ []) (1 ∷ 0 ∷ 0 ∷ 1 ∷ 3 ∷ 0 ∷ 1 ∷ 3 ∷ 0 ∷ 2 ∷ 3 ∷ 0 ∷ 2 ∷ 3 ∷ 0 ∷ 2 ∷ 0 ∷ 0 ∷ [])
+
+-- P5
+abbrev pub p5 : Town
+p5 = town 2 2 2 (2 ∷ 1 ∷ []) (1 ∷ 2 ∷ 1 ∷ 0 ∷ [])
+
+-- P6: nine streets with one full list of ten sites
+abbrev pub p6 : Town
+p6 = town 9 10 3 (9 ∷ 8 ∷ 7 ∷ 6 ∷ 5 ∷ 4 ∷ 3 ∷ 2 ∷ 1 ∷ 0 ∷ []) (joined 9 (λ i. (1 ∷ 2 ∷ 3 ∷ 4 ∷ 5 ∷ 6 ∷ 7 ∷ 8 ∷ 9 ∷ 10 ∷ [])))
+
+-- P8
+abbrev pub p8 : Town
+p8 = town 1 1 1 (7 ∷ []) (0 ∷ [])
+
+-- the second round has only a rise of 0
+abbrev pub riseless : Town
+riseless = town 1 2 2 (1 ∷ 1 ∷ []) (2 ∷ 0 ∷ [])
+
+-- over all free streets site 2 would come first, over a share site 1 does
+abbrev pub crowded : Town
+crowded = town 2 2 2 (3 ∷ 3 ∷ []) (1 ∷ 2 ∷ 2 ∷ 0 ∷ [])
+
+-- two places score alike: the better place decides who is dealt
+abbrev pub level : Town
+level = town 2 3 2 (2 ∷ 2 ∷ 1 ∷ []) (3 ∷ 2 ∷ 0 ∷ 2 ∷ 0 ∷ 0 ∷ [])
+
+-- no swap of two streets gains after the rounds; a ring through three sites does
+abbrev pub ring : Town
+ring = town 3 3 3 (3 ∷ 2 ∷ 0 ∷ []) (3 ∷ 2 ∷ 0 ∷ 3 ∷ 0 ∷ 0 ∷ 2 ∷ 1 ∷ 0 ∷ [])
+
+-- every division totals 0
+abbrev pub tied : Town
+tied = town 2 2 2 (0 ∷ 0 ∷ []) (0 ∷ 0 ∷ 1 ∷ 0 ∷ [])
+
+-- all streets and all scores alike
+abbrev pub alike : Town
+alike = town 4 2 2 (1 ∷ 1 ∷ []) (1 ∷ 2 ∷ 1 ∷ 2 ∷ 1 ∷ 2 ∷ 1 ∷ 2 ∷ [])
+
+-- one list is empty
+abbrev pub short : Town
+short = town 2 2 1 (5 ∷ 5 ∷ []) (1 ∷ 2 ∷ 0 ∷ 0 ∷ [])
+
+-- P5 as a file
+abbrev pub p5file : List ℕ
+p5file = (84 ∷ 78 ∷ 2 ∷ 0 ∷ 2 ∷ 2 ∷ 1 ∷ 83 ∷ 67 ∷ 2 ∷ 0 ∷ 1 ∷ 0 ∷ 83 ∷ 84 ∷ 1 ∷ 0 ∷ 2 ∷ 1 ∷ 2 ∷ 83 ∷ 84 ∷ 2 ∷ 0 ∷ 1 ∷ 1 ∷ 69 ∷ 78 ∷ [])
+
+-- P1 to P8
+abbrev pub worked : List Line
+worked =
+    FreePlan (p1 2) 0 7 (1 ∷ 1 ∷ 2 ∷ 2 ∷ []) (1 ∷ 2 ∷ []) ∷
+    ListTotal (p1 2) (1 ∷ 3 ∷ []) 0 7 ∷
+    BalancedPlan (p1 2) 0 7 (1 ∷ 1 ∷ 2 ∷ 2 ∷ []) (1 ∷ 2 ∷ []) ∷
+    Floor (p1 2) 0 2 ∷
+    FreePlan p3 0 5 (1 ∷ 1 ∷ 1 ∷ 3 ∷ 3 ∷ 0 ∷ []) (3 ∷ 1 ∷ []) ∷
+    Bound p3 (1 ∷ 2 ∷ []) 1 6 ∷
+    BalancedPlan p3 0 6 (1 ∷ 1 ∷ 1 ∷ 2 ∷ 2 ∷ 2 ∷ []) (1 ∷ 2 ∷ []) ∷
+    Rounds p5 2 (1 ∷ 2 ∷ []) ∷
+    BalancedPlan p5 0 3 (2 ∷ 1 ∷ []) (1 ∷ 2 ∷ []) ∷
+    Places 10 3 (4 ∷ 6 ∷ 10 ∷ []) ∷
+    Floor p6 0 30 ∷
+    FreePlan (p1 3) 0 8 (1 ∷ 1 ∷ 2 ∷ 3 ∷ []) (1 ∷ 2 ∷ 3 ∷ []) ∷
+    BalancedPlan (p1 3) 5 0 (blank 4) (blank 3) ∷
+    FreePlan p8 0 0 (0 ∷ []) (1 ∷ []) ∷
+    BalancedPlan p8 0 0 (1 ∷ []) (1 ∷ []) ∷
+    []
+
+-- plans beside P1 to P8
+abbrev pub plans : List Line
+plans =
+    FreePlan riseless 0 1 (2 ∷ []) (2 ∷ 1 ∷ []) ∷
+    BalancedPlan crowded 0 6 (1 ∷ 2 ∷ []) (1 ∷ 2 ∷ []) ∷
+    Rounds level 4 (3 ∷ 2 ∷ []) ∷
+    BalancedPlan level 0 4 (3 ∷ 2 ∷ []) (2 ∷ 3 ∷ []) ∷
+    Rounds ring 6 (3 ∷ 1 ∷ 2 ∷ []) ∷
+    BalancedPlan ring 0 7 (2 ∷ 3 ∷ 1 ∷ []) (2 ∷ 3 ∷ 1 ∷ []) ∷
+    Rounds tied 0 (2 ∷ 1 ∷ []) ∷
+    BalancedPlan tied 0 0 (1 ∷ 2 ∷ []) (1 ∷ 2 ∷ []) ∷
+    BalancedDivision alike (2 ∷ 1 ∷ []) 0 4 (1 ∷ 1 ∷ 2 ∷ 2 ∷ []) ∷
+    Floor short 0 0 ∷
+    Floor (p1 3) 5 0 ∷
+    FreeDivision p3 (1 ∷ 2 ∷ []) 0 6 (1 ∷ 1 ∷ 1 ∷ 2 ∷ 2 ∷ 2 ∷ []) ∷
+    FreeDivision p3 (3 ∷ []) 0 4 (0 ∷ 3 ∷ 3 ∷ 3 ∷ 3 ∷ 0 ∷ []) ∷
+    []
+
+-- one row, one site: a site that is not ranked scores 0, whatever the last score is
+abbrev pub scored : List Line
+scored =
+    RowScore 2 (5 ∷ 4 ∷ []) (2 ∷ 0 ∷ []) 1 0 0 ∷
+    RowScore 2 (5 ∷ 4 ∷ []) (2 ∷ 0 ∷ []) 2 0 5 ∷
+    RowScore 2 (5 ∷ 4 ∷ []) (2 ∷ 1 ∷ []) 1 0 4 ∷
+    RowScore 2 (5 ∷ 4 ∷ []) (2 ∷ 1 ∷ []) 0 17 0 ∷
+    RowScore 2 (5 ∷ 4 ∷ []) (2 ∷ 1 ∷ []) 3 17 0 ∷
+    RowScore 2 (5 ∷ 6 ∷ []) (2 ∷ 1 ∷ []) 3 8 0 ∷
+    RowScore 2 (5 ∷ 4 ∷ []) (2 ∷ 2 ∷ []) 3 11 0 ∷
+    RowScore 2 (5 ∷ 4 ∷ []) (2 ∷ []) 3 6 0 ∷
+    RowScore 65 (5 ∷ 4 ∷ []) (2 ∷ []) 3 2 0 ∷
+    []
+
+-- each number on its condition, and of two conditions the one that is tried first
+abbrev pub refused : List Line
+refused =
+    Check (p1 2) 0 ∷
+    Check (town 400 1 1 (7 ∷ []) (replicate 400 0)) 0 ∷
+    Check (town 401 1 1 (7 ∷ []) (replicate 401 0)) 1 ∷
+    Check (town 0 65 0 [] []) 1 ∷
+    Check (town 1 64 64 (replicate 64 0) (replicate 64 0)) 0 ∷
+    Check (town 1 65 1 (replicate 65 0) (replicate 65 0)) 2 ∷
+    Check (town 1 0 0 [] []) 2 ∷
+    Check (town 1 2 0 (1 ∷ 0 ∷ []) (1 ∷ 0 ∷ [])) 3 ∷
+    Check (town 1 2 3 (1 ∷ 0 ∷ []) (1 ∷ 0 ∷ [])) 3 ∷
+    Check (town 1 2 3 (1 ∷ []) (1 ∷ [])) 3 ∷
+    Check (town 1 2 2 (1 ∷ []) (1 ∷ 0 ∷ [])) 6 ∷
+    Check (town 2 2 2 (1 ∷ 2 ∷ []) (1 ∷ 0 ∷ [])) 6 ∷
+    Check (town 1 2 1 (1000 ∷ 0 ∷ []) (1 ∷ 0 ∷ [])) 0 ∷
+    Check (town 1 2 1 (1001 ∷ 0 ∷ []) (0 ∷ 1 ∷ [])) 8 ∷
+    Check (town 1 2 1 (1 ∷ 2 ∷ []) (0 ∷ 1 ∷ [])) 8 ∷
+    Check (town 1 2 1 (1 ∷ 1 ∷ []) (0 ∷ 1 ∷ [])) 9 ∷
+    Check (town 1 2 1 (1 ∷ 1 ∷ []) (0 ∷ 3 ∷ [])) 9 ∷
+    Check (town 1 2 1 (1 ∷ 1 ∷ []) (3 ∷ 3 ∷ [])) 10 ∷
+    Check (town 1 2 1 (1 ∷ 1 ∷ []) (2 ∷ 2 ∷ [])) 11 ∷
+    Check (town 2 2 1 (1 ∷ 1 ∷ []) (1 ∷ 1 ∷ 0 ∷ 1 ∷ [])) 11 ∷
+    []
+
+-- lists of sites: 3 for the length, 17 all through, then 20
+abbrev pub lists : List Line
+lists =
+    ListTotal (p1 2) [] 3 0 ∷
+    ListTotal (p1 2) (1 ∷ 2 ∷ 3 ∷ 1 ∷ []) 3 0 ∷
+    ListTotal (p1 2) (1 ∷ 1 ∷ 4 ∷ []) 17 0 ∷
+    ListTotal (p1 2) (0 ∷ []) 17 0 ∷
+    ListTotal (p1 2) (2 ∷ 2 ∷ []) 20 0 ∷
+    FreeDivision (p1 2) (2 ∷ 2 ∷ []) 20 0 (blank 4) ∷
+    BalancedDivision (p1 2) (1 ∷ 2 ∷ 3 ∷ []) 5 0 (blank 4) ∷
+    BalancedDivision (p1 2) (3 ∷ 3 ∷ []) 20 0 (blank 4) ∷
+    []
+
+-- hand plans
+abbrev pub hand : List Line
+hand =
+    FreeHand (p1 2) (1 ∷ 1 ∷ 2 ∷ 2 ∷ []) 7 0 ∷
+    FreeHand (p1 2) (1 ∷ 1 ∷ 2 ∷ 0 ∷ []) 6 0 ∷
+    FreeHand (p1 2) (1 ∷ 1 ∷ 2 ∷ 2 ∷ []) 8 19 ∷
+    FreeHand (p1 2) (1 ∷ 2 ∷ 3 ∷ 0 ∷ []) 8 18 ∷
+    FreeHand (p1 2) (1 ∷ 2 ∷ 4 ∷ 0 ∷ []) 8 17 ∷
+    BalancedHand (p1 2) (1 ∷ 1 ∷ 2 ∷ 2 ∷ []) 7 0 ∷
+    BalancedHand (p1 2) (1 ∷ 2 ∷ 1 ∷ 2 ∷ []) 4 0 ∷
+    BalancedHand (p1 2) (1 ∷ 2 ∷ 1 ∷ 2 ∷ []) 6 19 ∷
+    BalancedHand (p1 2) (1 ∷ 1 ∷ 1 ∷ 2 ∷ []) 6 18 ∷
+    BalancedHand (p1 2) (1 ∷ 1 ∷ 2 ∷ 0 ∷ []) 6 17 ∷
+    BalancedHand (p1 3) (1 ∷ 1 ∷ 2 ∷ 0 ∷ []) 6 5 ∷
+    []
+
+-- P5 as a file, cut and damaged
+abbrev pub files : List Line
+files =
+    File p5 1 p5file ∷
+    Read [] 12 ∷
+    Read (take 1 p5file) 12 ∷
+    Read (take 6 p5file) 12 ∷
+    Read (take 7 p5file) 12 ∷
+    Read (take 12 p5file) 12 ∷
+    Read (take 17 p5file) 12 ∷
+    Read (take 19 p5file) 12 ∷
+    Read (take 26 p5file) 12 ∷
+    Read (take 27 p5file) 12 ∷
+    Read (set p5file 0 0) 13 ∷
+    Read (set p5file 1 0) 13 ∷
+    Read (set p5file 7 0) 13 ∷
+    Read (set p5file 13 0) 13 ∷
+    Read (set p5file 26 0) 13 ∷
+    Read (set p5file 2 0) 1 ∷
+    Read (set p5file 3 2) 1 ∷
+    Read (set p5file 4 0) 2 ∷
+    Read (set p5file 4 65) 2 ∷
+    Read (set p5file 5 0) 3 ∷
+    Read (set p5file 5 3) 3 ∷
+    Read (set p5file 6 2) 4 ∷
+    Read (set p5file 10 4) 8 ∷
+    Read (set p5file 11 3) 8 ∷
+    Read (set p5file 15 2) 14 ∷
+    Read (set p5file 22 1) 14 ∷
+    Read (set p5file 17 3) 15 ∷
+    Read (set p5file 18 0) 10 ∷
+    Read (set p5file 18 3) 10 ∷
+    Read (set p5file 19 1) 11 ∷
+    Read (p5file ++ (0 ∷ [])) 16 ∷
+    Write p5 1 28 0 ∷
+    Write p5 1 27 7 ∷
+    Write p5 2 27 4 ∷
+    Write (p1 3) 1 200 0 ∷
+    []
+
+-- the whole table
+abbrev pub table : List Line
+table = worked ++ plans ++ scored ++ refused ++ lists ++ hand ++ files
