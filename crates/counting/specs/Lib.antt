@@ -2,3 +2,4 @@ pub mod Words
 pub mod Lists
 pub mod Choice
 pub mod Buffers
+pub mod Sites

@@ -1,1 +1,49 @@
-// Definitions alone so far.
+// The library: every entry that a caller may call. Each checks its own input, on any input whatever, and answers with its result or with
+// one of document 01's numbers; a refusal leaves the caller's buffers as they were.
+ghost use mathlib.Core.Path.{_≡_};
+ghost use Rattle.survey.specs.Rows.{rankedPart, scoreOf};
+ghost use Rattle.planner.specs.Refusals.{checkRefusal, rowScoreRefusal};
+ghost use Rattle.planner.specs.Answers.{Answered, Told, checkedNumber, checkedAccepts, number, accepts, total};
+
+mod tries;
+
+// The answer of a check.
+pub enum Checked {
+    Accepted,
+    Refused(u8),
+}
+
+// The answer of an entry that gives a total.
+pub enum Answer {
+    Total(u32),
+    Refused(u8),
+}
+
+// Checks a survey of n streets and m sites of which k are to be chosen. Refuses with 1, 2, 3, 6, 8, 9, 10 or 11.
+pub fn check_survey(n: usize, m: usize, k: usize, scores: &[u16], rows: &[u8]) -> Checked
+    ensures { λ r. ⌜ Answered (checkedNumber r) (checkedAccepts r) (checkRefusal n m k (now (scores .entry)) (now (rows .entry))) ⌝ }
+{
+    let x = survey::check::survey_refusal(n, m, k, 0, scores, rows);
+    if x != 0 {
+        return Checked::Refused(x);
+    }
+    Checked::Accepted
+}
+
+// The ranked part of a row, as the leading part of the caller's own slice. Refuses nothing.
+pub fn ranked_part(row: &[u8]) -> &[u8]
+    ensures { λ r. ⌜ now r ≡ rankedPart (now (row .entry)) ⌝ }
+{
+    survey::rows::ranked(row)
+}
+
+// The score that one row of m bytes gives one site. Refuses with 2, 6, 8, 9, 10, 11 or 17.
+pub fn row_score(m: usize, scores: &[u16], row: &[u8], site: u8) -> Answer
+    ensures { λ r. ⌜ Told (number r) (accepts r) (total r) (rowScoreRefusal m (now (scores .entry)) (now (row .entry)) site) (scoreOf (now (scores .entry)) (now (row .entry)) site) ⌝ }
+{
+    let x = tries::row_score_refusal(m, scores, row, site);
+    if x != 0 {
+        return Answer::Refused(x);
+    }
+    Answer::Total(survey::rows::score(scores, row, site) as u32)
+}

@@ -1,1 +1,45 @@
-// Definitions alone so far.
+// The survey: its bounds, its rows and scores, and what is turned down in it.
+ghost use mathlib.Core.Path.{_≡_};
+ghost use lib.ListN.{replicate};
+ghost use Rattle.survey.specs.Refusals.{mostStreets, mostSites, topScore};
+
+pub mod check;
+pub mod rows;
+
+// A survey as a program holds it: the sizes and the kind of plan, then the score buffer and the row buffer, of which the first m numbers
+// and the first n times m bytes count.
+pub struct Survey {
+    pub n: usize,
+    pub m: usize,
+    pub k: usize,
+    pub kind: usize,
+    pub scores: [u16; Survey::SITES],
+    pub rows: [u8; Survey::ROWS],
+}
+
+impl Survey {
+    // the greatest numbers of streets and of sites, and the greatest score
+    pub const STREETS: usize = 400;
+
+    pub const SITES: usize = 64;
+
+    pub const TOP_SCORE: u16 = 1000;
+    // the bytes of the longest rows
+    pub const ROWS: usize = Survey::STREETS * Survey::SITES;
+
+    // The first, empty state: no street, no site, and nothing ranked.
+    pub fn empty() -> Self
+        ensures sizes { λ r. ⌜ (r .n ≡ 0) × (r .m ≡ 0) × (r .k ≡ 0) × (r .kind ≡ 0) ⌝ }
+        ensures buffers { λ r. ⌜ (r .scores ≡ replicate mostSites 0) × (r .rows ≡ replicate 25600 0) ⌝ }
+        ensures bounds { λ _. do ⌜ ((← ⟦Survey::STREETS⟧ .entry) ≡ mostStreets) × ((← ⟦Survey::SITES⟧ .entry) ≡ mostSites) × ((← ⟦Survey::TOP_SCORE⟧ .entry) ≡ topScore) ⌝ }
+    {
+        Self {
+            n: 0,
+            m: 0,
+            k: 0,
+            kind: 0,
+            scores: [0u16; Survey::SITES],
+            rows: [0u8; Survey::ROWS],
+        }
+    }
+}

@@ -1,0 +1,4 @@
+pub mod Refusals
+pub mod Membership
+pub mod Choice
+pub mod Sums

@@ -1,0 +1,59 @@
+-- Laws of sums and lists that a function makes, and of what stands at an index.
+-- Assumes nothing.
+use mathlib.Core.Path.{_≡_, refl, _∙_}
+use mathlib.Core.Bool.{true}
+use mathlib.Core.Logic.{_≢_, ⊎-elim, by-cases}
+use mathlib.Core.List.{List, [], _∷_}
+use Prim.Native.Nat.{ℕ, zero, suc, _+_, _*_, _<_}
+use native.Mathlib.Nat.{eq-or-lt-of-le, le-of-suc-le-suc}
+use native.Mathlib.Decide.{ℕ-discrete}
+use native.Mathlib.Omega.{arith}
+use lib.ListN.{length, length-append, List·getD-append}
+use lib.Seq.{getD-at}
+use Rattle.counting.specs.Words.{sumOf}
+use Rattle.counting.specs.Lists.{at, has}
+use Rattle.counting.specs.Buffers.{joined, listOf}
+use Rattle.counting.proofs.Membership.{has-head, has-tail}
+
+-- a list made by a function has n numbers
+pub listOf-length : (n : ℕ) (f : ℕ → ℕ) → length (listOf n f) ≡ n
+unfolding joined
+listOf-length zero f = refl
+listOf-length (suc n) f = omega (arith, length-append (listOf n f) (f n ∷ []), listOf-length n f)
+
+-- each of them is the function's
+pub listOf-at : (n : ℕ) (f : ℕ → ℕ) (i : ℕ) → i < n → at (listOf n f) i ≡ f i
+unfolding joined
+listOf-at zero f i l = absurd (omega arith)
+listOf-at (suc n) f i l =
+    let last : i ≡ n → at (listOf (suc n) f) i ≡ f i = λ e. rw e (getD-at (listOf n f) (f n) [] 0 n (listOf-length n f)) in
+    let old : i < n → at (listOf (suc n) f) i ≡ f i = λ k. List·getD-append (listOf n f) (f n ∷ []) 0 i (rw listOf-length k) ∙ listOf-at n f i k in
+    ⊎-elim last old (eq-or-lt-of-le (le-of-suc-le-suc l))
+
+-- a sum whose numbers are the same is the same
+pub sumOf-same : (n : ℕ) (f g : ℕ → ℕ) → ((i : ℕ) → i < n → f i ≡ g i) → sumOf n f ≡ sumOf n g
+sumOf-same zero f g h = refl
+sumOf-same (suc n) f g h = omega (arith, h n (omega arith), sumOf-same n f g (λ i l. h i (omega arith)))
+
+-- a sum of which one number is x more is x more
+pub sumOf-more : (n : ℕ) (f g : ℕ → ℕ) (b x : ℕ) → b < n → f b ≡ g b + x → ((i : ℕ) → i ≢ b → f i ≡ g i) → sumOf n f ≡ sumOf n g + x
+sumOf-more zero f g b x l e h = absurd (omega arith)
+sumOf-more (suc n) f g b x l e h =
+    let last : b ≡ n → sumOf (suc n) f ≡ sumOf (suc n) g + x = λ q. omega (arith, rw q at e, sumOf-same n f g (λ i k. h i (omega arith))) in
+    by-cases (ℕ-discrete b n) last (λ d. omega (arith, h n (omega arith), sumOf-more n f g b x (omega arith) e h))
+
+-- the first number of a sum apart
+pub sumOf-front : (n : ℕ) (f : ℕ → ℕ) → sumOf (suc n) f ≡ f 0 + sumOf n (λ i. f (suc i))
+sumOf-front zero f = omega arith
+sumOf-front (suc n) f = omega (arith, sumOf-front n f)
+
+-- a sum of equal numbers
+pub sumOf-even : (n x : ℕ) → sumOf n (λ i. x) ≡ n * x
+sumOf-even zero x = omega arith
+sumOf-even (suc n) x = omega (arith, sumOf-even n x)
+
+-- what stands at an index of a list stands in it
+pub has-at : (S : List ℕ) (i : ℕ) → i < length S → has (at S i) S ≡ true
+has-at [] i l = absurd (omega arith)
+has-at (a ∷ S) zero l = has-head a S
+has-at (a ∷ S) (suc i) l = has-tail (at S i) a S (has-at S i (le-of-suc-le-suc l))

@@ -1,0 +1,6 @@
+pub mod Counts
+pub mod Best
+pub mod Shared
+pub mod Dual
+pub mod Chain
+pub mod Ties

@@ -1,0 +1,68 @@
+-- Laws of the greedy list: it is a plan of different sites of 1 to m, it holds the list it starts from, and each round only adds behind it.
+-- Assumes nothing.
+use mathlib.Core.Path.{_≡_, refl, sym, _∙_}
+use mathlib.Core.Bool.{false, true≢false}
+use mathlib.Core.Logic.{⊎-elim}
+use mathlib.Core.List.{List, [], _∷_, _++_}
+use Prim.Native.Nat.{ℕ, zero, suc, _+_, _≤_, _<_}
+use native.Mathlib.Nat.{zero-add, add-zero, add-suc}
+use native.Mathlib.Omega.{arith}
+use lib.ListN.{length, take, length-append}
+use lib.Seq.{take-all, take-append-le}
+use Rattle.counting.specs.Lists.{has}
+use Rattle.counting.proofs.Refusals.{or-left}
+use Rattle.counting.proofs.Membership.{has-append, has-last, distinct-last}
+use Rattle.counting.proofs.Choice.{unchosen-only, unchosen-greatest}
+use Rattle.free_plan.specs.Greedy.{totalWith, pick, greedy}
+use Rattle.counting.specs.Sites.{Sub, Plan}
+
+-- a list with more sites behind it holds those that it had
+pub sub-append : (S T : List ℕ) → Sub S (S ++ T)
+sub-append S T a h = rw has-append (or-left (has a S) (has a T) h)
+
+-- no site is a plan of none
+pub plan-none : {m : ℕ} → Plan m 0 []
+plan-none = record { sites = λ a h. absurd (true≢false (sym h)); apart = refl; size = refl }
+
+-- a plan with a new site behind it is a plan
+pub plan-add : {m i : ℕ} {S : List ℕ} → Plan m i S → (a : ℕ) → 0 < a → a ≤ m → has a S ≡ false → Plan m (suc i) (S ++ (a ∷ []))
+plan-add {S = S} p a low high new =
+    record {
+      sites = λ b h. ⊎-elim (p .sites b) (λ e. rw e (low, high)) (has-last b a S h);
+      apart = distinct-last a S (p .apart) new;
+      size = omega (arith, length-append S (a ∷ []), p .size);
+    }
+
+module _ (v : ℕ → ℕ → ℕ) (n m : ℕ) where
+  -- a round makes a plan of one site more, while a site is left
+  pub pick-plan : {i : ℕ} {S : List ℕ} → Plan m i S → i < m → Plan m (suc i) (S ++ (pick v n m S ∷ []))
+  pick-plan {i} {S} p l =
+      let c = unchosen-greatest S (totalWith v n S) m (omega (arith, p .size)) in
+      let (low, new) = unchosen-only S (pick v n m S) (c .passes) in
+      plan-add p (pick v n m S) low (c .upto) new
+
+  -- k rounds from a plan make a plan of k sites more
+  pub greedy-plan : {i : ℕ} {S : List ℕ} (k : ℕ) → Plan m i S → i + k ≤ m → Plan m (i + k) (greedy v n m k S)
+  greedy-plan zero p l = rw add-zero p
+  greedy-plan (suc k) p l = rw add-suc (pick-plan (greedy-plan k p (omega arith)) (omega arith))
+
+  -- the free plan: k rounds from no site make a plan of k sites
+  pub free-plan : (k : ℕ) → k ≤ m → Plan m k (greedy v n m k [])
+  free-plan k l = rw zero-add at (greedy-plan k plan-none (omega arith))
+
+  -- k rounds add k entries
+  pub greedy-length : (k : ℕ) (S : List ℕ) → length (greedy v n m k S) ≡ length S + k
+  greedy-length zero S = omega arith
+  greedy-length (suc k) S = omega (arith, length-append (greedy v n m k S) (pick v n m (greedy v n m k S) ∷ []), greedy-length k S)
+
+  -- the list of k rounds is the opening part of the list of k + j rounds
+  pub greedy-opens : (k j : ℕ) (S : List ℕ) → take (length S + k) (greedy v n m (k + j) S) ≡ greedy v n m k S
+  greedy-opens k zero S = rw add-zero (take-all (length S + k) (greedy v n m k S) (omega (arith, greedy-length k S)))
+  greedy-opens k (suc j) S =
+      let G = greedy v n m (k + j) S in
+      rw add-suc (take-append-le (length S + k) G (pick v n m G ∷ []) (omega (arith, greedy-length (k + j) S)) ∙ greedy-opens k j S)
+
+  -- the sites that it starts from stay
+  pub greedy-holds : (k : ℕ) (S : List ℕ) → Sub S (greedy v n m k S)
+  greedy-holds zero S a h = h
+  greedy-holds (suc k) S a h = sub-append (greedy v n m k S) (pick v n m (greedy v n m k S) ∷ []) a (greedy-holds k S a h)

@@ -1,0 +1,54 @@
+-- `planner::tries::row_score_refusal` meets its contract. Assumes nothing.
+use borrow.Author.Needs.{needs}
+use Rattle.counting.proofs.Refusals.{chain}
+use Rattle.planner.proofs.tries.row_score_refusal.Statement.{statement}
+use Rattle.planner.proofs.tries.row_score_refusal.Tie as tie
+
+returns : tie.Need-returns
+returns c = search chain depth 30
+
+returns-2 : tie.Need-returns-2
+returns-2 c = search chain depth 40
+
+returns-3 : tie.Need-returns-3
+returns-3 c = search chain depth 40
+
+returns-4 : tie.Need-returns-4
+returns-4 c = search chain depth 40
+
+scores-refusal-requires : tie.Need-scores-refusal-requires
+scores-refusal-requires c κs = search needs
+
+returns-5 : tie.Need-returns-5
+returns-5 c = search chain depth 40
+
+row-refusal-requires : tie.Need-row-refusal-requires
+row-refusal-requires c κs = search needs
+
+returns-6 : tie.Need-returns-6
+returns-6 c = search chain depth 40
+
+returns-7 : tie.Need-returns-7
+returns-7 c = search chain depth 40
+
+returns-8 : tie.Need-returns-8
+returns-8 c = search chain depth 40
+
+returns-9 : tie.Need-returns-9
+returns-9 c = search chain depth 40
+
+pub row-score-refusal-spec : {M : Type 1} → statement M
+row-score-refusal-spec =
+    tie.close
+    (tie.spec
+    returns
+    returns-2
+    returns-3
+    returns-4
+    scores-refusal-requires
+    returns-5
+    row-refusal-requires
+    returns-6
+    returns-7
+    returns-8
+    returns-9)

@@ -1,0 +1,43 @@
+-- What the entries' answers say, case by case: document 01's number, 0 where the call is accepted, and the total, 0 where it is refused.
+-- Assumes nothing.
+use Prim.Native.Nat.{ℕ}
+use mathlib.Core.Path.{_≡_}
+use mathlib.Core.Bool.{Bool, true, false}
+use lib.Dec.{eqb}
+use Rattle.counting.specs.Words.{_when_}
+use Rattle.planner.specs.declared.Checked.{Checked}
+use Rattle.planner.specs.declared.Checked.the-variants as checked
+use Rattle.planner.specs.declared.Answer.{Answer}
+use Rattle.planner.specs.declared.Answer.the-variants as answer
+
+-- a check's answer
+abbrev pub checkedNumber : Checked → ℕ
+checkedNumber checked.Accepted = 0
+checkedNumber (checked.Refused x) = x
+
+abbrev pub checkedAccepts : Checked → Bool
+checkedAccepts checked.Accepted = true
+checkedAccepts (checked.Refused x) = false
+
+-- the answer of an entry that gives a total
+abbrev pub number : Answer → ℕ
+number (answer.Total t) = 0
+number (answer.Refused x) = x
+
+abbrev pub accepts : Answer → Bool
+accepts (answer.Total t) = true
+accepts (answer.Refused x) = false
+
+abbrev pub total : Answer → ℕ
+total (answer.Total t) = t
+total (answer.Refused x) = 0
+
+-- the answer to a call whose first refusal is x: that number, and an acceptance exactly where it is 0
+pub record Answered (said : ℕ) (accepted : Bool) (x : ℕ) : Type 0 where
+  pub right-number : said ≡ x
+  pub right-case : accepted ≡ eqb x 0
+
+-- the same with a total: t where the call is accepted, and 0 where it is refused
+pub record Told (said : ℕ) (accepted : Bool) (reported x t : ℕ) : Type 0 where
+  pub answered : Answered said accepted x
+  pub right-total : reported ≡ t when eqb x 0

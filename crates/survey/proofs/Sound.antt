@@ -1,0 +1,88 @@
+-- A survey that is not refused is sound: `accepted` gives the record of specs/Accepted.
+-- Assumes nothing.
+use mathlib.Core.Path.{_≡_, refl, sym, _∙_}
+use mathlib.Core.Logic.{⊎-elim}
+use mathlib.Core.Bool.{Bool, true, false, _&&_, true≢false}
+use mathlib.Core.List.{List}
+use Prim.Native.Nat.{ℕ, _*_, _-_, _≤_, _<_, zero-le}
+use native.Mathlib.Nat.{eq-zero-or-pos}
+use native.Mathlib.Omega.{arith}
+use lib.Dec.{ltb, eqb, lit<}
+use lib.ListN.{length, take}
+use borrow.Author.Tests.{ltb-false, lt-ltb, eq-eqb, ne-eqb}
+use Rattle.counting.specs.Words.{_when_, _unless_, _orElse_, firstOf, outside}
+use Rattle.counting.specs.Lists.{at, has}
+use Rattle.counting.proofs.Refusals.{or-zero, when-zero, unless-is, within, exact, first-none}
+use Rattle.survey.specs.Rows.{rowOf}
+use Rattle.survey.specs.Refusals.{scoreRefusal, scoresRefusal, siteRefusal, byteRefusal, rowRefusal, streetRefusal, rowsRefusal, lengthRefusal, streetsRefusal, sitesRefusal, chosenRefusal, surveyRefusal}
+use Rattle.survey.specs.Accepted.{SoundRow, SoundScores, Accepted}
+
+and-false : (a b : Bool) → a && b ≡ false → a ≡ true → b ≡ false
+and-false true b e t = e
+and-false false b e t = absurd (true≢false (sym t))
+
+pub sound-scores : (scores : List ℕ) → scoresRefusal scores ≡ 0 → SoundScores scores
+sound-scores scores e =
+    record {
+      top = λ i l. ltb-false _ _ (when-zero 8 _ (lit< tt) (at-score i l .0));
+      falling = λ i p l. ltb-false _ _ (and-false _ _ (when-zero 8 _ (lit< tt) (at-score i l .1)) (lt-ltb 0 i p));
+    }
+  where
+    at-score : (i : ℕ) → i < length scores → (8 when ltb 1000 (at scores i) ≡ 0) × (8 when (ltb 0 i && ltb (at scores (i - 1)) (at scores i)) ≡ 0)
+    at-score i l = or-zero _ _ (first-none (length scores) (scoreRefusal scores) e i l)
+
+-- a byte that is a site and is not refused
+site-sound : (m : ℕ) (ended again : Bool) (b : ℕ) → 0 < b → siteRefusal m ended again b ≡ 0 → (ended ≡ false) × (b ≤ m) × (again ≡ false)
+site-sound m ended again b p e =
+    let tries : ℕ = 9 when ended orElse 10 when ltb m b orElse 11 when again in
+    let z : tries ≡ 0 = unless-is tries tries (eqb b 0) (ne-eqb b 0 (λ q. omega arith)) refl ∙ e in
+    let (x, y) = or-zero (9 when ended) (10 when ltb m b orElse 11 when again) z in
+    let (u, w) = or-zero (10 when ltb m b) (11 when again) y in
+    (when-zero 9 ended (lit< tt) x, ltb-false m b (when-zero 10 (ltb m b) (lit< tt) u), when-zero 11 again (lit< tt) w)
+
+pub sound-row : (m : ℕ) (row : List ℕ) → rowRefusal m row ≡ 0 → SoundRow m row
+sound-row m row e =
+    record {
+      named = λ j l. named-at j (at row j) (here j l);
+      closed = λ j l p. site-sound m _ _ (at row j) p (here j l) .0;
+      once = λ j l p. site-sound m _ _ (at row j) p (here j l) .2;
+    }
+  where
+    here : (j : ℕ) → j < length row → byteRefusal m row j ≡ 0
+    here j l = first-none (length row) (byteRefusal m row) e j l
+
+    named-at : (j b : ℕ) → siteRefusal m (has 0 (take j row)) (has b (take j row)) b ≡ 0 → b ≤ m
+    named-at j b h = ⊎-elim (λ z. rw z zero-le) (λ p. site-sound m _ _ b p h .1) (eq-zero-or-pos b)
+
+module _ (n m k own : ℕ) (scores rows : List ℕ) (e : surveyRefusal n m k own scores rows ≡ 0) where
+  -- the tries behind the first three, the fourth, and so on
+  past-sizes : own orElse lengthRefusal (length scores) m orElse lengthRefusal (length rows) (n * m) orElse scoresRefusal scores orElse rowsRefusal n m rows ≡ 0
+  past-sizes = or-zero (chosenRefusal k m) _ (or-zero (sitesRefusal m) _ (or-zero (streetsRefusal n) _ e .1) .1) .1
+
+  past-own : lengthRefusal (length scores) m orElse lengthRefusal (length rows) (n * m) orElse scoresRefusal scores orElse rowsRefusal n m rows ≡ 0
+  past-own = or-zero own _ past-sizes .1
+
+  past-lengths : scoresRefusal scores orElse rowsRefusal n m rows ≡ 0
+  past-lengths = or-zero (lengthRefusal (length rows) (n * m)) _ (or-zero (lengthRefusal (length scores) m) _ past-own .1) .1
+
+  -- what the call tried besides refuses nothing either
+  pub own-accepted : own ≡ 0
+  own-accepted = or-zero own _ past-sizes .0
+
+  pub accepted : Accepted n m k scores rows
+  accepted =
+      let streets = within 1 n 1 400 (lit< tt) (or-zero (streetsRefusal n) _ e .0) in
+      let sites = within 2 m 1 64 (lit< tt) (or-zero (sitesRefusal m) _ (or-zero (streetsRefusal n) _ e .1) .0) in
+      let chosen = within 3 k 1 m (lit< tt) (or-zero (chosenRefusal k m) _ (or-zero (sitesRefusal m) _ (or-zero (streetsRefusal n) _ e .1) .1) .0) in
+      record {
+        some-street = streets .0;
+        few-streets = streets .1;
+        some-site = sites .0;
+        few-sites = sites .1;
+        some-chosen = chosen .0;
+        few-chosen = chosen .1;
+        scores-fit = exact 6 (length scores) m (lit< tt) (or-zero (lengthRefusal (length scores) m) _ past-own .0);
+        rows-fit = exact 6 (length rows) (n * m) (lit< tt) (or-zero (lengthRefusal (length rows) (n * m)) _ (or-zero (lengthRefusal (length scores) m) _ past-own .1) .0);
+        sound-scores = sound-scores scores (or-zero (scoresRefusal scores) _ past-lengths .0);
+        sound-rows = λ s l. sound-row m (rowOf m rows s) (first-none n (streetRefusal m rows) (or-zero (scoresRefusal scores) _ past-lengths .1) s l);
+      }

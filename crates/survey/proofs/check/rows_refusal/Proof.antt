@@ -1,0 +1,52 @@
+-- `survey::check::rows_refusal` meets its contract. Assumes nothing.
+use borrow.Author.Needs.{needs}
+use mathlib.Core.Path.{_≡_}
+use Prim.Native.Nat.{_≤_, _-_}
+use native.Mathlib.Omega.{arith}
+use Rattle.counting.specs.Words.{firstOf}
+use Rattle.counting.proofs.Refusals.{loop}
+use Rattle.survey.specs.Refusals.{streetRefusal}
+use Rattle.survey.proofs.Laws.{row-within}
+use Rattle.survey.proofs.check.rows_refusal.Statement.{statement}
+use Rattle.survey.proofs.check.rows_refusal.Tie as tie
+
+abbrev Inv-loop : tie.InvT-loop
+Inv-loop n m rows i₀ i = (i ≤ n) × (firstOf i (streetRefusal m rows) ≡ 0)
+
+abbrev μ-loop : tie.MeasureT-loop
+μ-loop n m rows i₀ i = n - i
+
+loop-holds : tie.Need-loop-holds Inv-loop μ-loop
+loop-holds c = search loop
+
+street-refusal-requires : tie.Need-street-refusal-requires Inv-loop μ-loop
+street-refusal-requires c κs = omega (arith, row-within (c .before .before .before .args .n) (c .before .before .before .args .m) (c .before .loop .i) (omega arith))
+
+returns : tie.Need-returns Inv-loop μ-loop
+returns c = search loop
+
+add-i : tie.Need-add-i Inv-loop μ-loop
+add-i c = search needs
+
+loop-less : tie.Need-loop-less Inv-loop μ-loop
+loop-less c = search needs
+
+loop-again : tie.Need-loop-again Inv-loop μ-loop
+loop-again c = search loop
+
+returns-2 : tie.Need-returns-2 Inv-loop μ-loop
+returns-2 c = search loop
+
+pub rows-refusal-spec : {M : Type 1} → statement M
+rows-refusal-spec =
+    tie.close
+    (tie.spec
+    Inv-loop
+    μ-loop
+    loop-holds
+    street-refusal-requires
+    returns
+    add-i
+    loop-less
+    loop-again
+    returns-2)

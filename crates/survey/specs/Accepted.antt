@@ -1,0 +1,34 @@
+-- What holds of an accepted survey, in one record: what a call may rely on once its tries have refused nothing.
+-- Assumes nothing.
+use Prim.Native.Nat.{ℕ, _*_, _-_, _≤_, _<_}
+use mathlib.Core.Path.{_≡_}
+use mathlib.Core.Bool.{false}
+use mathlib.Core.List.{List}
+use lib.ListN.{length, take}
+use Rattle.counting.specs.Lists.{at, has}
+use Rattle.survey.specs.Rows.{rowOf}
+use Rattle.survey.specs.Refusals.{mostStreets, mostSites, topScore}
+
+-- of a row: no site above m, none after a zero, none twice
+pub record SoundRow (m : ℕ) (row : List ℕ) : Type 0 where
+  pub named : (j : ℕ) → j < length row → at row j ≤ m
+  pub closed : (j : ℕ) → j < length row → 0 < at row j → has 0 (take j row) ≡ false
+  pub once : (j : ℕ) → j < length row → 0 < at row j → has (at row j) (take j row) ≡ false
+
+-- of the scores: none above the top score, none above the one before
+pub record SoundScores (scores : List ℕ) : Type 0 where
+  pub top : (i : ℕ) → i < length scores → at scores i ≤ topScore
+  pub falling : (i : ℕ) → 0 < i → i < length scores → at scores i ≤ at scores (i - 1)
+
+-- of the survey
+pub record Accepted (n m k : ℕ) (scores rows : List ℕ) : Type 0 where
+  pub some-street : 1 ≤ n
+  pub few-streets : n ≤ mostStreets
+  pub some-site : 1 ≤ m
+  pub few-sites : m ≤ mostSites
+  pub some-chosen : 1 ≤ k
+  pub few-chosen : k ≤ m
+  pub scores-fit : length scores ≡ m
+  pub rows-fit : length rows ≡ n * m
+  pub sound-scores : SoundScores scores
+  pub sound-rows : (s : ℕ) → s < n → SoundRow m (rowOf m rows s)
