@@ -13,7 +13,7 @@ use Rattle.counting.specs.Lists.{has}
 use Rattle.counting.proofs.Refusals.{or-left}
 use Rattle.counting.proofs.Membership.{has-append, has-last, distinct-last}
 use Rattle.counting.proofs.Choice.{unchosen-only, unchosen-greatest}
-use Rattle.free_plan.specs.Greedy.{totalWith, pick, greedy}
+use Rattle.free_plan.specs.Greedy.{pick, greedy}
 use Rattle.counting.specs.Sites.{Sub, Plan}
 
 -- a list with more sites behind it holds those that it had
@@ -37,7 +37,7 @@ module _ (v : ℕ → ℕ → ℕ) (n m : ℕ) where
   -- a round makes a plan of one site more, while a site is left
   pub pick-plan : {i : ℕ} {S : List ℕ} → Plan m i S → i < m → Plan m (suc i) (S ++ (pick v n m S ∷ []))
   pick-plan {i} {S} p l =
-      let c = unchosen-greatest S (totalWith v n S) m (omega (arith, p .size)) in
+      let c = unchosen-greatest S _ m (omega (arith, p .size)) in
       let (low, new) = unchosen-only S (pick v n m S) (c .passes) in
       plan-add p (pick v n m S) low (c .upto) new
 

@@ -55,9 +55,12 @@ sound-row m row e =
     named-at j b h = ⊎-elim (λ z. rw z zero-le) (λ p. site-sound m _ _ b p h .1) (eq-zero-or-pos b)
 
 module _ (n m k own : ℕ) (scores rows : List ℕ) (e : surveyRefusal n m k own scores rows ≡ 0) where
-  -- the tries behind the first three, the fourth, and so on
+  -- the tries behind the first two, behind 3, and so on
+  past-sites : chosenRefusal k m orElse own orElse lengthRefusal (length scores) m orElse lengthRefusal (length rows) (n * m) orElse scoresRefusal scores orElse rowsRefusal n m rows ≡ 0
+  past-sites = or-zero (sitesRefusal m) _ (or-zero (streetsRefusal n) _ e .1) .1
+
   past-sizes : own orElse lengthRefusal (length scores) m orElse lengthRefusal (length rows) (n * m) orElse scoresRefusal scores orElse rowsRefusal n m rows ≡ 0
-  past-sizes = or-zero (chosenRefusal k m) _ (or-zero (sitesRefusal m) _ (or-zero (streetsRefusal n) _ e .1) .1) .1
+  past-sizes = or-zero (chosenRefusal k m) _ past-sites .1
 
   past-own : lengthRefusal (length scores) m orElse lengthRefusal (length rows) (n * m) orElse scoresRefusal scores orElse rowsRefusal n m rows ≡ 0
   past-own = or-zero own _ past-sizes .1
@@ -69,20 +72,21 @@ module _ (n m k own : ℕ) (scores rows : List ℕ) (e : surveyRefusal n m k own
   pub own-accepted : own ≡ 0
   own-accepted = or-zero own _ past-sizes .0
 
-  pub accepted : Accepted n m k scores rows
+  -- the number of sites to choose is one of 1 to m
+  pub chosen-within : (1 ≤ k) × (k ≤ m)
+  chosen-within = within 3 k 1 m (lit< tt) (or-zero (chosenRefusal k m) _ past-sites .0)
+
+  pub accepted : Accepted n m scores rows
   accepted =
       let streets = within 1 n 1 400 (lit< tt) (or-zero (streetsRefusal n) _ e .0) in
       let sites = within 2 m 1 64 (lit< tt) (or-zero (sitesRefusal m) _ (or-zero (streetsRefusal n) _ e .1) .0) in
-      let chosen = within 3 k 1 m (lit< tt) (or-zero (chosenRefusal k m) _ (or-zero (sitesRefusal m) _ (or-zero (streetsRefusal n) _ e .1) .1) .0) in
       record {
         some-street = streets .0;
         few-streets = streets .1;
         some-site = sites .0;
         few-sites = sites .1;
-        some-chosen = chosen .0;
-        few-chosen = chosen .1;
         scores-fit = exact 6 (length scores) m (lit< tt) (or-zero (lengthRefusal (length scores) m) _ past-own .0);
         rows-fit = exact 6 (length rows) (n * m) (lit< tt) (or-zero (lengthRefusal (length rows) (n * m)) _ (or-zero (lengthRefusal (length scores) m) _ past-own .1) .0);
         sound-scores = sound-scores scores (or-zero (scoresRefusal scores) _ past-lengths .0);
-        sound-rows = λ s l. sound-row m (rowOf m rows s) (first-none n (streetRefusal m rows) (or-zero (scoresRefusal scores) _ past-lengths .1) s l);
+        sound-rows = λ s l. sound-row m (rowOf m rows s) (first-none n (streetRefusal m rows) (or-zero (scoresRefusal scores) _ past-lengths .1) s l)
       }

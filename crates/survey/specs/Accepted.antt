@@ -21,13 +21,11 @@ pub record SoundScores (scores : List ℕ) : Type 0 where
   pub falling : (i : ℕ) → 0 < i → i < length scores → at scores i ≤ at scores (i - 1)
 
 -- of the survey
-pub record Accepted (n m k : ℕ) (scores rows : List ℕ) : Type 0 where
+pub record Accepted (n m : ℕ) (scores rows : List ℕ) : Type 0 where
   pub some-street : 1 ≤ n
   pub few-streets : n ≤ mostStreets
   pub some-site : 1 ≤ m
   pub few-sites : m ≤ mostSites
-  pub some-chosen : 1 ≤ k
-  pub few-chosen : k ≤ m
   pub scores-fit : length scores ≡ m
   pub rows-fit : length rows ≡ n * m
   pub sound-scores : SoundScores scores
