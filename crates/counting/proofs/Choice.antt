@@ -101,6 +101,9 @@ module _ (test : ℕ → Bool) (worth : ℕ → ℕ) where
   pub greatest-le : (m : ℕ) → greatest test worth m ≤ m
   greatest-le m = found m .1 .upto
 
+  pub chosen-le : (m r : ℕ) → r ≡ greatest test worth m → r ≤ m
+  chosen-le m r e = rw e (greatest-le m)
+
   -- where some number up to m passes the test, it is the chosen one
   pub greatest-of : (m a : ℕ) → a ≤ m → test a ≡ true → Chosen test worth m (greatest test worth m)
   greatest-of m a l e =

@@ -2,3 +2,5 @@ pub mod Refusals
 pub mod Membership
 pub mod Choice
 pub mod Sums
+pub mod Marking
+pub mod Filling

@@ -197,3 +197,9 @@ first-none zero f e i l = absurd (not-suc-le-zero l)
 first-none (suc n) f e i l =
     let z = or-zero (firstOf n f) (f n) e in
     ⊎-elim (λ q. ap f q ∙ z .1) (λ lt. first-none n f (z .0) i lt) (eq-or-lt-of-le (le-of-suc-le-suc l))
+
+-- what the first n are decides which is found
+pub first-same : (n : ℕ) (f g : ℕ → ℕ) → ((i : ℕ) → i < n → f i ≡ g i) → firstOf n f ≡ firstOf n g
+unfolding firstOf
+first-same zero f g h = refl
+first-same (suc n) f g h = rw (first-same n f g (λ i l. h i (omega arith)), h n (omega arith))

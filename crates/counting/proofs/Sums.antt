@@ -4,11 +4,12 @@ use mathlib.Core.Path.{_≡_, refl, _∙_}
 use mathlib.Core.Bool.{true}
 use mathlib.Core.Logic.{_≢_, ⊎-elim, by-cases}
 use mathlib.Core.List.{List, [], _∷_}
-use Prim.Native.Nat.{ℕ, zero, suc, _+_, _*_, _<_}
-use native.Mathlib.Nat.{eq-or-lt-of-le, le-of-suc-le-suc}
+use Prim.Native.Nat.{ℕ, zero, suc, _+_, _*_, _≤_, _<_}
+use native.Mathlib.Nat.{le-antisymm, eq-or-lt-of-le, le-of-suc-le-suc}
 use native.Mathlib.Decide.{ℕ-discrete}
+use native.Mathlib.Numerals.{add-one}
 use native.Mathlib.Omega.{arith}
-use lib.ListN.{length, length-append, List·getD-append}
+use lib.ListN.{length, length-append, List·getD-append, List·getD-eq-default}
 use lib.Seq.{getD-at}
 use Rattle.counting.specs.Words.{sumOf}
 use Rattle.counting.specs.Lists.{at, has}
@@ -57,3 +58,15 @@ pub has-at : (S : List ℕ) (i : ℕ) → i < length S → has (at S i) S ≡ tr
 has-at [] i l = absurd (omega arith)
 has-at (a ∷ S) zero l = has-head a S
 has-at (a ∷ S) (suc i) l = has-tail (at S i) a S (has-at S i (le-of-suc-le-suc l))
+
+-- one number more is added
+pub sumOf-next : (n : ℕ) (f : ℕ → ℕ) → sumOf (n + 1) f ≡ sumOf n f + f n
+sumOf-next n f = rw add-one refl
+
+-- and the sum is whole at the end
+pub sum-end : (f : ℕ → ℕ) (i n x : ℕ) → n ≤ i → i ≤ n → x ≡ sumOf i f → x ≡ sumOf n f
+sum-end f i n x a b e = rw (le-antisymm b a) at e
+
+-- past the end of a list stands 0
+pub at-past : (list : List ℕ) (i : ℕ) → length list ≤ i → at list i ≡ 0
+at-past list i l = List·getD-eq-default list 0 l

@@ -1,8 +1,10 @@
 -- The words for what is written into a buffer.
 -- Assumes nothing.
-use Prim.Native.Nat.{ℕ, zero, suc, _+_}
+use Prim.Native.Nat.{ℕ, zero, suc, _+_, _≤_, _<_}
+use mathlib.Core.Path.{_≡_}
 use mathlib.Core.List.{List, [], _∷_, _++_}
 use lib.ListN.{length, take, drop}
+use Rattle.counting.specs.Lists.{at}
 
 -- the lists f 0, f 1, .., f (n - 1), one behind the other
 unfoldable pub joined : ℕ → (ℕ → List ℕ) → List ℕ
@@ -21,3 +23,9 @@ laid buffer i new = take i buffer ++ new ++ drop (i + length new) buffer
 abbrev pub after : ℕ → List ℕ → List ℕ → List ℕ
 after zero new old = new
 after (suc x) new old = old
+
+-- a list whose first n numbers have each become f of the index and of what it was
+pub record Mapped (f : ℕ → ℕ → ℕ) (before after : List ℕ) (n : ℕ) : Type 0 where
+  pub size : length after ≡ length before
+  pub done : (i : ℕ) → i < n → at after i ≡ f i (at before i)
+  pub rest : (i : ℕ) → n ≤ i → at after i ≡ at before i

@@ -3,3 +3,4 @@ pub mod Lists
 pub mod Choice
 pub mod Buffers
 pub mod Sites
+pub mod Marks

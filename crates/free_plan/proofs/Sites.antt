@@ -6,6 +6,7 @@ use mathlib.Core.Logic.{⊎-elim}
 use mathlib.Core.List.{List, [], _∷_, _++_}
 use Prim.Native.Nat.{ℕ, zero, suc, _+_, _≤_, _<_}
 use native.Mathlib.Nat.{zero-add, add-zero, add-suc}
+use native.Mathlib.Numerals.{add-one}
 use native.Mathlib.Omega.{arith}
 use lib.ListN.{length, take, length-append}
 use lib.Seq.{take-all, take-append-le}
@@ -40,6 +41,10 @@ module _ (v : ℕ → ℕ → ℕ) (n m : ℕ) where
       let c = unchosen-greatest S _ m (omega (arith, p .size)) in
       let (low, new) = unchosen-only S (pick v n m S) (c .passes) in
       plan-add p (pick v n m S) low (c .upto) new
+
+  -- one round more
+  pub greedy-next : (k : ℕ) (S : List ℕ) → greedy v n m (k + 1) S ≡ greedy v n m k S ++ (pick v n m (greedy v n m k S) ∷ [])
+  greedy-next k S = rw add-one refl
 
   -- k rounds from a plan make a plan of k sites more
   pub greedy-plan : {i : ℕ} {S : List ℕ} (k : ℕ) → Plan m i S → i + k ≤ m → Plan m (i + k) (greedy v n m k S)

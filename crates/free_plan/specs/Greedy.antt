@@ -1,10 +1,11 @@
 -- The free plan, as document 01 has it: greedy Chamberlin-Courant over any value `v street site`, from any list of sites.
 -- Assumes nothing.
 use Prim.Native.Nat.{ℕ, zero, suc, max}
+use mathlib.Core.Bool.{Bool}
 use mathlib.Core.List.{List, [], _∷_, _++_}
 use lib.ListN.{length}
 use Rattle.counting.specs.Words.{_when_, firstOf, sumOf}
-use Rattle.counting.specs.Lists.{at, has}
+use Rattle.counting.specs.Lists.{at}
 use Rattle.counting.specs.Choice.{greatest, unchosen}
 
 -- the best score that any of the sites gives one street, which gives the site a the score f a
@@ -30,9 +31,9 @@ greedy v n m zero sites = sites
 greedy v n m (suc k) sites = let so : List ℕ = greedy v n m k sites in so ++ (pick v n m so ∷ [])
 
 -- the site at the index j of a street's list, where it is chosen; else 0
-abbrev pub chosenAt : List ℕ → List ℕ → ℕ → ℕ
-chosenAt sites list j = at list j when has (at list j) sites
+abbrev pub chosenAt : (ℕ → Bool) → List ℕ → ℕ → ℕ
+chosenAt chosen list j = at list j when chosen (at list j)
 
 -- where a street goes: to the first of its list that is chosen, which is the chosen site with its best place; 0 (unserved) if it ranked none
-abbrev pub goesTo : List ℕ → List ℕ → ℕ
-goesTo sites list = firstOf (length list) (chosenAt sites list)
+abbrev pub goesTo : (ℕ → Bool) → List ℕ → ℕ
+goesTo chosen list = firstOf (length list) (chosenAt chosen list)

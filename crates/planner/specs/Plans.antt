@@ -4,6 +4,7 @@
 use Prim.Native.Nat.{ℕ}
 use mathlib.Core.List.{List, []}
 use lib.ListN.{length}
+use Rattle.counting.specs.Lists.{has}
 use Rattle.counting.specs.Buffers.{listOf, laid}
 use Rattle.survey.specs.Rows.{rowOf, listOfStreet, placeOf, scoreAt, value, shortest}
 use Rattle.free_plan.specs.Greedy.{total, greedy, goesTo}
@@ -20,7 +21,7 @@ listTotal n m scores rows sites = total (value m scores rows) n sites
 
 -- the free division over a list of sites
 abbrev pub freeDivision : ℕ → ℕ → List ℕ → List ℕ → List ℕ
-freeDivision n m rows sites = listOf n (λ s. goesTo sites (listOfStreet m rows s))
+freeDivision n m rows sites = listOf n (λ s. goesTo (λ a. has a sites) (listOfStreet m rows s))
 
 -- the free plan's sites, in order of choice; its division and total are those of this list
 abbrev pub freeSites : ℕ → ℕ → ℕ → List ℕ → List ℕ → List ℕ

@@ -88,5 +88,5 @@ module _ (n m k own : ℕ) (scores rows : List ℕ) (e : surveyRefusal n m k own
         scores-fit = exact 6 (length scores) m (lit< tt) (or-zero (lengthRefusal (length scores) m) _ past-own .0);
         rows-fit = exact 6 (length rows) (n * m) (lit< tt) (or-zero (lengthRefusal (length rows) (n * m)) _ (or-zero (lengthRefusal (length scores) m) _ past-own .1) .0);
         sound-scores = sound-scores scores (or-zero (scoresRefusal scores) _ past-lengths .0);
-        sound-rows = λ s l. sound-row m (rowOf m rows s) (first-none n (streetRefusal m rows) (or-zero (scoresRefusal scores) _ past-lengths .1) s l)
+        sound-rows = λ s l. sound-row m (rowOf m rows s) (first-none n (streetRefusal m rows) (or-zero (scoresRefusal scores) _ past-lengths .1) s l);
       }

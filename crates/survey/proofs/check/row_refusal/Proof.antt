@@ -3,23 +3,25 @@ use borrow.Author.Needs.{needs}
 use mathlib.Core.Path.{_≡_, refl}
 use Prim.Native.Nat.{_≤_, _<_, _-_}
 use native.Mathlib.Omega.{arith}
-use lib.ListN.{length, take, length-set}
+use lib.ListN.{length, take}
 use Rattle.counting.specs.Lists.{at}
 use Rattle.counting.specs.Words.{firstOf}
+use Rattle.counting.specs.Marks.{Marks}
+use Rattle.counting.proofs.Marking.{marks-none}
 use Rattle.counting.proofs.Refusals.{loop, first-start, first-found, first-next}
 use Rattle.survey.specs.Refusals.{byteRefusal}
-use Rattle.survey.proofs.Laws.{Seen, seen-none, seen-more, byte-is}
+use Rattle.survey.proofs.Laws.{seen-more, byte-is}
 use Rattle.survey.proofs.check.row_refusal.Statement.{statement}
 use Rattle.survey.proofs.check.row_refusal.Tie as tie
 
 abbrev Inv-loop : tie.InvT-loop
-Inv-loop m row seen₀ j₀ j-end seen j = (j ≤ j-end) × (j-end ≡ length row) × (length seen ≡ 256) × (firstOf j (byteRefusal m row) ≡ 0) × Seen seen (take j row)
+Inv-loop m row seen₀ j₀ j-end seen j = (j ≤ j-end) × (j-end ≡ length row) × (firstOf j (byteRefusal m row) ≡ 0) × Marks seen (take j row)
 
 abbrev μ-loop : tie.MeasureT-loop
 μ-loop m row seen₀ j₀ j-end seen j = j-end - j
 
 loop-holds : tie.Need-loop-holds Inv-loop μ-loop
-loop-holds c = (search needs, refl, refl, first-start _, seen-none (c .before .args .row .now))
+loop-holds c = (search needs, refl, first-start _, marks-none)
 
 shared-slice-read-b : tie.Need-shared-slice-read-b Inv-loop μ-loop
 shared-slice-read-b c = search needs
@@ -41,7 +43,7 @@ returns c =
     let l = c .before .before .before .before .loop in
     let s = c .before .site-refusal in
     let small : at (c .before .before .before .before .before .before .args .row .now) (l .j) < 256 = omega (arith, c .before .before .shared-slice-known2 .given (l .j)) in
-    first-found (l .j) _ _ _ (omega arith) (l .inv .3) (byte-is _ _ (l .seen) (l .j) _ (l .inv .4) small (s .ensures)) (c .if1 .taken)
+    first-found (l .j) _ _ _ (omega arith) (l .inv .2) (byte-is _ _ (l .seen) (l .j) _ (l .inv .3) small (s .ensures)) (c .if1 .taken)
 
 array-write-seen : tie.Need-array-write-seen Inv-loop μ-loop
 array-write-seen c = omega (arith, c .before .before .shared-slice-known2 .given (c .before .before .before .before .loop .j))
@@ -58,8 +60,8 @@ loop-again c =
     let l = c .before .before .before .before .loop in
     let s = c .before .site-refusal in
     let small : at row (l .j) < 256 = omega (arith, c .before .before .shared-slice-known2 .given (l .j)) in
-    let here = byte-is _ row (l .seen) (l .j) _ (l .inv .4) small (s .ensures) in
-    (omega arith, refl, simp length-set (l .inv .2), first-next (l .j) _ _ (l .inv .3) here (c .if1 .left), seen-more row (l .seen) (l .j) _ (l .inv .2) (omega arith) refl small (l .inv .4))
+    let here = byte-is _ row (l .seen) (l .j) _ (l .inv .3) small (s .ensures) in
+    (omega arith, refl, first-next (l .j) _ _ (l .inv .2) here (c .if1 .left), seen-more row (l .seen) (l .j) (omega arith) small (l .inv .3))
 
 returns-2 : tie.Need-returns-2 Inv-loop μ-loop
 returns-2 c = search loop

@@ -1,0 +1,79 @@
+use borrow.Author.Needs.{needs}
+use mathlib.Core.Path.{_≡_, refl, sym, ap, _∙_}
+use mathlib.Core.List.{List, [], _∷_, _++_}
+use Prim.Native.Nat.{ℕ, _≤_, _-_, _+_, _*_, max}
+use native.Mathlib.Omega.{arith}
+use lib.ListN.{length, take, drop, getD}
+use lib.Seq.{length-take-le}
+use Rattle.values.specs.Table.{valueIn}
+use Rattle.counting.proofs.Choice.{chosen-le}
+use Rattle.free_rounds.specs.Held.{sitesOf}
+use Rattle.free_rounds.proofs.Rounded.{table-same, bests-small, choice-is}
+use Rattle.free_rounds.proofs.State.round.Statement.{statement}
+use Rattle.free_rounds.proofs.State.round.Tie as tie
+use Rattle.free_rounds.proofs.State.round.Reads as reads
+use Rattle.free_rounds.proofs.State.round.Lts as lts
+use Rattle.free_rounds.proofs.State.taking.Reads as taking-reads
+use Rattle.free_rounds.proofs.pick.choose.Reads as choose-reads
+
+-- src/lib.rt:65:41
+array-share-prefix-bests : tie.Need-array-share-prefix-bests
+array-share-prefix-bests c = search needs
+
+-- src/lib.rt:65:41
+slice-aggregate-choose : tie.Need-slice-aggregate-choose
+slice-aggregate-choose c = 
+    let a = c .before .before .before .before .args in
+    let p = c .before .before .before .before .pre in
+    let whole = length-take-le (a .n) (a .self .bests) (omega (arith, p .0 .few-streets, p .1 .0 .bests-size)) in
+    sym whole
+
+-- src/lib.rt:65:57
+slice-aggregate-choose-2 : tie.Need-slice-aggregate-choose-2
+slice-aggregate-choose-2 c = search needs
+
+-- src/lib.rt:65:13
+choose-requires : tie.Need-choose-requires
+choose-requires c κs = 
+    let a = c .before .before .before .before .before .args in
+    let p = c .before .before .before .before .before .pre in
+    let whole = length-take-le (a .n) (a .self .bests) (omega (arith, p .0 .few-streets, p .1 .0 .bests-size)) in
+    (table-same _ (a .n) (a .m) _ whole (p .0), bests-small _ (a .n) (a .self) (p .1 .0) (λ s x. p .0 .small _), p .1 .0 .marks .size)
+
+-- src/lib.rt:66:42
+cast-taking : tie.Need-cast-taking
+cast-taking c = 
+    let a = c .before .before .before .before .before .before .args in
+    let p = c .before .before .before .before .before .before .pre in
+    let low : c .choose .result ≤ a .m = chosen-le _ _ (a .m) _ (c .choose .ensures) in
+    omega (arith, p .0 .few-sites)
+
+-- src/lib.rt:66:9
+taking-requires : tie.Need-taking-requires
+taking-requires c κs = 
+    let a = c .before .before .before .before .before .before .args in
+    let p = c .before .before .before .before .before .before .pre in
+    let low : c .choose .result ≤ a .m = chosen-le _ _ (a .m) _ (c .choose .ensures) in
+    (p .0, (p .1 .0, (low, omega (arith, p .0 .few-sites, p .1 .1))))
+
+-- src/lib.rt:56:5
+returns : tie.Need-returns
+returns c = 
+    let a = c .before .before .before .before .before .before .before .args in
+    let p = c .before .before .before .before .before .before .before .pre in
+    let t = c .taking .ensures in
+    let v = valueIn (a .values .now) (a .m) in
+    let site = c .before .choose .ensures ∙ choice-is v (a .n) (a .m) (a .self) (p .1 .0) (p .0 .few-streets) (p .0 .few-sites) in
+    ((t .0 .0, t .0 .1 ∙ ap (λ (x : ℕ). sitesOf (a .self) ++ (x ∷ [])) site), t .1)
+
+pub round-spec : {M : Type 1} → statement M
+round-spec =
+    tie.close
+    (tie.spec
+    array-share-prefix-bests
+    slice-aggregate-choose
+    slice-aggregate-choose-2
+    choose-requires
+    cast-taking
+    taking-requires
+    returns)

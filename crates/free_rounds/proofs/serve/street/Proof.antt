@@ -1,0 +1,64 @@
+use borrow.Author.Needs.{needs}
+use mathlib.Core.Path.{_≡_, refl, sym, ap, _∙_}
+use mathlib.Core.List.{List}
+use Prim.Native.Nat.{ℕ, _≤_, _-_, _+_, _*_, max}
+use native.Mathlib.Omega.{arith}
+use lib.ListN.{length, take, getD}
+use mathlib.Core.Bool.{false}
+use Rattle.survey.specs.Rows.{rankedPart}
+use Rattle.survey.proofs.Laws.{row-part}
+use Rattle.free_plan.specs.Greedy.{goesTo}
+use Rattle.free_rounds.proofs.serve.street.Statement.{statement}
+use Rattle.free_rounds.proofs.serve.street.Tie as tie
+use Rattle.free_rounds.proofs.serve.street.Reads as reads
+use Rattle.free_rounds.proofs.serve.street.Lts as lts
+use Rattle.free_rounds.proofs.serve.first_flagged.Reads as first-flagged-reads
+use Rattle.survey.proofs.rows.ranked.Reads as ranked-reads
+
+-- src/serve.rt:39:16
+mul-from : tie.Need-mul-from
+mul-from c = search needs
+
+-- src/serve.rt:40:14
+add-to : tie.Need-add-to
+add-to c = search needs
+
+-- src/serve.rt:41:40
+sub-ranked : tie.Need-sub-ranked
+sub-ranked c = search needs
+
+-- src/serve.rt:41:40
+part-ranked-start : tie.Need-part-ranked-start
+part-ranked-start c = search needs
+
+-- src/serve.rt:41:40
+part-ranked-end : tie.Need-part-ranked-end
+part-ranked-end c = search needs
+
+-- src/serve.rt:41:19
+ranked-requires : tie.Need-ranked-requires
+ranked-requires c κs = search needs
+
+-- src/serve.rt:41:5
+first-flagged-requires : tie.Need-first-flagged-requires
+first-flagged-requires c κs = search needs
+
+-- src/serve.rt:35:1
+returns : tie.Need-returns
+returns c = 
+    let a = c .before .before .before .before .before .args in
+    let list = c .before .ranked .ensures ∙ ap (λ (row : List ℕ). rankedPart row) (row-part (a .m) (a .rows .now) (a .s)) in
+    c .first-flagged .ensures ∙ ap (λ (l : List ℕ). goesTo (λ x. getD (a .marks .now) x false) l) list
+
+pub street-spec : {M : Type 1} → statement M
+street-spec =
+    tie.close
+    (tie.spec
+    mul-from
+    add-to
+    sub-ranked
+    part-ranked-start
+    part-ranked-end
+    ranked-requires
+    first-flagged-requires
+    returns)

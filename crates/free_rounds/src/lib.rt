@@ -1,0 +1,96 @@
+// The free plan's engine: a state that holds the sites chosen so far and each street's best score, passed by value from round to round.
+ghost use mathlib.Core.Path.{_≡_};
+ghost use mathlib.Core.List.{_∷_, [], _++_};
+ghost use Prim.Native.Nat.{ℕ, _+_, _*_, _≤_, _<_, max};
+ghost use lib.ListN.{length};
+ghost use Rattle.counting.specs.Lists.{at};
+ghost use Rattle.values.specs.Table.{valueIn};
+ghost use Rattle.free_plan.specs.Greedy.{pick, greedy};
+ghost use Rattle.free_rounds.specs.Held.{Held, Table, sitesOf, emptyState};
+
+pub mod pick;
+pub mod serve;
+pub mod sums;
+
+// The sites chosen so far in order of choice, a flag for each of them, and the best score that they give each street.
+pub struct State {
+    pub chosen: [u8; 64],
+    pub count: usize,
+    pub marks: [bool; 256],
+    pub bests: [u32; 400],
+}
+
+impl State {
+    // No site is chosen.
+    pub fn empty() -> Self
+        ensures { λ r. ⌜ r ≡ emptyState ⌝ }
+    {
+        Self {
+            chosen: [0u8; 64],
+            count: 0,
+            marks: [false; 256],
+            bests: [0u32; 400],
+        }
+    }
+
+    // The state with one site more.
+    pub fn taking(mut self, values: &[u32], n: usize, m: usize, site: u8) -> Self
+        requires { ⌜ Table n m (now values) ⌝ }
+        requires { ⌜ Held (valueIn (now values) m) n self ⌝ }
+        requires { ⌜ (site ≤ m) × (self .count < 64) ⌝ }
+        ensures sites { λ r. ⌜ (r .count ≡ self .count + 1) × (sitesOf r ≡ sitesOf self ++ (site ∷ [])) ⌝ }
+        ensures held { λ r. ⌜ Held (valueIn (now (values .entry)) m) n r ⌝ }
+    {
+        let at = self.count;
+        let flag = site as usize;
+        self.chosen[at] = site;
+        self.count = at + 1;
+        self.marks[flag] = true;
+        let mut bests = self.bests;
+        sums::raise(&mut bests[..n], values, m, flag);
+        self.bests = bests;
+        self
+    }
+
+    // One round: the site that raises the total most is added.
+    pub fn round(mut self, values: &[u32], n: usize, m: usize) -> Self
+        requires { ⌜ Table n m (now values) ⌝ }
+        requires { ⌜ Held (valueIn (now values) m) n self ⌝ }
+        requires { ⌜ self .count < m ⌝ }
+        ensures sites { λ r. ⌜ (r .count ≡ self .count + 1) × (sitesOf r ≡ sitesOf self ++ (pick (valueIn (now (values .entry)) m) n m (sitesOf self) ∷ [])) ⌝ }
+        ensures held { λ r. ⌜ Held (valueIn (now (values .entry)) m) n r ⌝ }
+    {
+        let bests = self.bests;
+        let marks = self.marks;
+        let site = pick::choose(values, &bests[..n], m, &marks);
+        self = self.taking(values, n, m, site as u8);
+        self
+    }
+}
+
+// The state after k rounds.
+pub fn rounds(values: &[u32], n: usize, m: usize, k: usize) -> State
+    requires { ⌜ Table n m (now values) × (k ≤ m) ⌝ }
+    ensures sites { λ r. ⌜ (r .count ≡ k) × (sitesOf r ≡ greedy (valueIn (now (values .entry)) m) n m k []) ⌝ }
+    ensures held { λ r. ⌜ Held (valueIn (now (values .entry)) m) n r ⌝ }
+{
+    let mut state = State::empty();
+    for i in 0..k {
+        state = state.round(values, n, m);
+    }
+    state
+}
+
+// The state with the sites of a given list.
+pub fn taken(values: &[u32], n: usize, m: usize, sites: &[u8]) -> State
+    requires { ⌜ Table n m (now values) ⌝ }
+    requires { ⌜ (length (now sites) ≤ 64) × ((i : ℕ) → at (now sites) i ≤ m) ⌝ }
+    ensures sites { λ r. ⌜ (r .count ≡ length (now (sites .entry))) × (sitesOf r ≡ now (sites .entry)) ⌝ }
+    ensures held { λ r. ⌜ Held (valueIn (now (values .entry)) m) n r ⌝ }
+{
+    let mut state = State::empty();
+    for i in 0..sites.len() {
+        state = state.taking(values, n, m, sites[i]);
+    }
+    state
+}

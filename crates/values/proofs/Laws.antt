@@ -1,0 +1,121 @@
+-- Laws of places in a list and of values: where a site has a place, what a list with one site more gives, and how great a value can be.
+-- Assumes nothing.
+use mathlib.Core.Path.{_≡_, refl, sym, ap, _∙_}
+use mathlib.Core.Bool.{Bool, true, false, true≢false}
+use mathlib.Core.Logic.{_≢_, ⊎-elim, by-cases}
+use mathlib.Core.List.{List, [], _∷_, _++_}
+use Prim.Native.Nat.{ℕ, zero, suc, _+_, _-_, _≤_, _<_, zero-le}
+use native.Mathlib.Nat.{eq-zero-or-pos}
+use native.Mathlib.Decide.{decLt}
+use native.Mathlib.Omega.{arith}
+use lib.Dec.{eqb}
+use lib.ListN.{length, length-append, List·getD-append}
+use lib.Seq.{getD-at}
+use borrow.Author.Tests.{eq-eqb, ne-eqb, eqb-false}
+use Rattle.counting.specs.Words.{_when_, _unless_, _orElse_, firstOf}
+use Rattle.counting.specs.Lists.{at, has}
+use Rattle.counting.proofs.Refusals.{or-pass, or-neither, when-yes, when-none, when-zero, unless-yes, unless-none, first-none, first-same}
+use Rattle.counting.proofs.Membership.{cond-at}
+use Rattle.counting.proofs.Sums.{has-at, at-past}
+use Rattle.survey.specs.Rows.{rankedPart, placeAt, placeIn, scoreAt, value, rowOf}
+use Rattle.survey.specs.Refusals.{topScore}
+use Rattle.survey.specs.Accepted.{SoundScores, Accepted}
+
+-- the first of numbers that are all 0 is 0
+pub first-zeros : (n : ℕ) (f : ℕ → ℕ) → ((i : ℕ) → i < n → f i ≡ 0) → firstOf n f ≡ 0
+unfolding firstOf
+first-zeros zero f h = refl
+first-zeros (suc n) f h = sym (or-pass 0 (firstOf n f) (firstOf n f) (f n) refl (first-zeros n f (λ i l. h i (omega arith))) (sym (h n (omega arith))))
+
+-- nothing behind a number
+or-none : (x : ℕ) → x orElse 0 ≡ x
+unfolding _orElse_
+or-none zero = refl
+or-none (suc x) = refl
+
+-- a number that stands at no index does not stand in the list
+pub has-none : (a : ℕ) (L : List ℕ) → ((i : ℕ) → i < length L → eqb (at L i) a ≡ false) → has a L ≡ false
+has-none a [] h = refl
+has-none a (b ∷ L) h =
+    or-neither (eqb a b) (has a L) (ne-eqb a b (λ e. eqb-false b a (h 0 (omega arith)) (sym e))) (has-none a L (λ i l. h (suc i) (omega arith)))
+
+-- a site that does not stand in a list has no place there
+pub place-none : (L : List ℕ) (a : ℕ) → has a L ≡ false → placeIn L a ≡ 0
+place-none L a e =
+    first-zeros (length L) (placeAt L a) (λ i l. sym (when-none (i + 1) (eqb (at L i) a) (ne-eqb (at L i) a (other i l))))
+  where
+    other : (i : ℕ) → i < length L → at L i ≡ a → ⊥
+    other i l q = true≢false (sym (has-at L i l) ∙ ap (λ (x : ℕ). has x L) q ∙ e)
+
+-- a site that stands in a list has a place there
+pub place-some : (L : List ℕ) (a : ℕ) → has a L ≡ true → 0 < placeIn L a
+place-some L a e = ⊎-elim (λ z. absurd (true≢false (sym e ∙ none z))) (λ p. p) (eq-zero-or-pos (placeIn L a))
+  where
+    none : placeIn L a ≡ 0 → has a L ≡ false
+    none z = has-none a L (λ i l. when-zero (i + 1) (eqb (at L i) a) (omega arith) (first-none (length L) (placeAt L a) z i l))
+
+-- a list with one site more: the places that it had, and the last place for a site that had none
+pub place-snoc : (L : List ℕ) (b a : ℕ) → placeIn (L ++ (b ∷ [])) a ≡ placeIn L a orElse (length L + 1) when eqb b a
+unfolding firstOf
+place-snoc L b a =
+    let size : length (L ++ (b ∷ [])) ≡ suc (length L) = omega (arith, length-append L (b ∷ [])) in
+    let new : at (L ++ (b ∷ [])) (length L) ≡ b = getD-at L b [] 0 (length L) refl in
+    ap (λ (n : ℕ). firstOf n more) size ∙ ap (λ (x : ℕ). x orElse more (length L)) (first-same (length L) more (placeAt L a) same)
+    ∙ ap (λ (x : ℕ). placeIn L a orElse (length L + 1) when eqb x a) new
+  where
+    more : ℕ → ℕ
+    more = placeAt (L ++ (b ∷ [])) a
+
+    same : (i : ℕ) → i < length L → more i ≡ placeAt L a i
+    same i l = ap (λ (x : ℕ). (i + 1) when eqb x a) (List·getD-append L (b ∷ []) 0 i l)
+
+module _ (L : List ℕ) (b : ℕ) where
+  -- a new site gets the next place, and every other site keeps its own
+  pub place-new : has b L ≡ false → placeIn (L ++ (b ∷ [])) b ≡ length L + 1
+  place-new e =
+      place-snoc L b b
+      ∙ sym (or-pass (length L + 1) (placeIn L b) (placeIn L b) _ refl (place-none L b e) (when-yes (length L + 1) (eqb b b) (eq-eqb b b refl)))
+
+  pub place-old : (a : ℕ) → a ≢ b → placeIn (L ++ (b ∷ [])) a ≡ placeIn L a
+  place-old a d =
+      let last : ℕ = length L + 1 in
+      place-snoc L b a
+      ∙ ap (λ (x : ℕ). placeIn L a orElse x) (sym (when-none last (eqb b a) (ne-eqb b a (λ e. d (sym e)))))
+      ∙ or-none (placeIn L a)
+
+-- no place scores 0, the place i + 1 scores what stands at the index i, and no place scores more than the top score
+pub score-none : (scores : List ℕ) → scoreAt scores 0 ≡ 0
+score-none scores = sym (unless-none (at scores 0) (eqb 0 0) refl)
+
+pub score-next : (scores : List ℕ) (i : ℕ) → scoreAt scores (i + 1) ≡ at scores i
+score-next scores i =
+    let back : i + 1 - 1 ≡ i = omega arith in
+    sym (unless-yes (at scores (i + 1 - 1)) (eqb (i + 1) 0) (ne-eqb (i + 1) 0 (λ e. omega arith))) ∙ ap (λ (x : ℕ). at scores x) back
+
+pub score-bound : (scores : List ℕ) (place : ℕ) → SoundScores scores → scoreAt scores place ≤ topScore
+unfolding _unless_
+score-bound scores place sound = go (eqb place 0)
+  where
+    most : (i : ℕ) → at scores i ≤ topScore
+    most i = by-cases (decLt i (length scores)) (sound .top i) (λ h. rw (at-past scores i (omega arith)) zero-le)
+
+    go : (t : Bool) → (at scores (place - 1) unless t) ≤ topScore
+    go true = zero-le
+    go false = most (place - 1)
+
+-- the ranked part holds no zero
+pub ranked-sites : (row : List ℕ) → has 0 (rankedPart row) ≡ false
+ranked-sites [] = refl
+ranked-sites (b ∷ row) =
+    cond-at (λ (L : List ℕ). has 0 L ≡ false) (eqb b 0) (λ e. refl)
+    (λ e. or-neither (eqb 0 b) (has 0 (rankedPart row)) (ne-eqb 0 b (λ z. eqb-false b 0 e (sym z))) (ranked-sites row))
+
+-- no value is above the top score
+pub valued-bound : {n m : ℕ} {scores rows : List ℕ} → Accepted n m scores rows → (s a : ℕ) → value m scores rows s a ≤ topScore
+valued-bound {m = m} {scores = scores} {rows = rows} ok s a = score-bound scores (placeIn (rankedPart (rowOf m rows s)) a) (ok .sound-scores)
+
+-- the site 0, that is none, has the value 0
+pub valued-zero : (m : ℕ) (scores rows : List ℕ) (s : ℕ) → value m scores rows s 0 ≡ 0
+valued-zero m scores rows s =
+    let ranked = rankedPart (rowOf m rows s) in
+    ap (λ (x : ℕ). scoreAt scores x) (place-none ranked 0 (ranked-sites (rowOf m rows s))) ∙ score-none scores

@@ -1,0 +1,82 @@
+-- `values::fill_row` meets its contract. Assumes nothing.
+use borrow.Author.Needs.{needs}
+use mathlib.Core.Path.{_≡_, refl}
+use Prim.Native.Nat.{_≤_, _-_}
+use native.Mathlib.Omega.{arith}
+use lib.ListN.{length}
+use Rattle.values.proofs.Filling.{Passed, passed-start, passed-room, passed-more, passed-stop, passed-all}
+use Rattle.values.proofs.fill_row.Statement.{statement}
+use Rattle.values.proofs.fill_row.Tie as tie
+
+abbrev Inv-loop : tie.InvT-loop
+Inv-loop scores row values₀ j₀ j-end values j = (j ≤ j-end) × (j-end ≡ length row) × Passed scores row values j
+
+abbrev μ-loop : tie.MeasureT-loop
+μ-loop scores row values₀ j₀ j-end values j = j-end - j
+
+loop-holds : tie.Need-loop-holds Inv-loop μ-loop
+loop-holds c = (search needs, refl, passed-start _ _ _ (c .pre .1 .0 .1) (c .pre .1 .1))
+
+shared-slice-read-b : tie.Need-shared-slice-read-b Inv-loop μ-loop
+shared-slice-read-b c = search needs
+
+same-length : tie.Need-same-length Inv-loop μ-loop
+same-length c = search needs
+
+returns : tie.Need-returns Inv-loop μ-loop
+returns c = passed-stop _ _ _ _ (omega arith) (c .if1 .taken) (c .before .before .before .loop .inv .2)
+
+mul-values : tie.Need-mul-values Inv-loop μ-loop
+mul-values c = search needs
+
+shared-slice-read-values : tie.Need-shared-slice-read-values Inv-loop μ-loop
+shared-slice-read-values c = search needs
+
+cast-values : tie.Need-cast-values Inv-loop μ-loop
+cast-values c = omega (arith, c .shared-slice-known2 .given (c .before .before .before .before .loop .j))
+
+cast-values-2 : tie.Need-cast-values-2 Inv-loop μ-loop
+cast-values-2 c = omega (arith, c .before .before .shared-slice-known .given (c .before .before .before .before .loop .j))
+
+mul-values-2 : tie.Need-mul-values-2 Inv-loop μ-loop
+mul-values-2 c = omega (arith, c .before .before .shared-slice-known .given (c .before .before .before .before .loop .j))
+
+slice-write-values : tie.Need-slice-write-values Inv-loop μ-loop
+slice-write-values c = passed-room _ _ _ _ (c .before .before .before .before .before .pre .0) (omega arith) (c .before .before .before .before .loop .inv .2)
+
+add-j : tie.Need-add-j Inv-loop μ-loop
+add-j c = search needs
+
+loop-less : tie.Need-loop-less Inv-loop μ-loop
+loop-less c = search needs
+
+loop-again : tie.Need-loop-again Inv-loop μ-loop
+loop-again c = (search needs, refl, passed-more _ _ _ _ (c .before .before .before .before .before .pre .0) (omega arith) (c .before .if1 .left) (c .before .before .before .before .loop .inv .2))
+
+same-length-2 : tie.Need-same-length-2 Inv-loop μ-loop
+same-length-2 c = search needs
+
+returns-2 : tie.Need-returns-2 Inv-loop μ-loop
+returns-2 c = passed-all _ _ _ _ _ (omega arith) (omega arith) refl (c .before .loop .inv .2)
+
+pub fill-row-spec : {M : Type 1} → statement M
+fill-row-spec =
+    tie.close
+    (tie.spec
+    Inv-loop
+    μ-loop
+    loop-holds
+    shared-slice-read-b
+    same-length
+    returns
+    mul-values
+    shared-slice-read-values
+    cast-values
+    cast-values-2
+    mul-values-2
+    slice-write-values
+    add-j
+    loop-less
+    loop-again
+    same-length-2
+    returns-2)
