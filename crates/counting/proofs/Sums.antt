@@ -1,7 +1,7 @@
 -- Laws of sums and lists that a function makes, and of what stands at an index.
 -- Assumes nothing.
-use mathlib.Core.Path.{_≡_, refl, _∙_}
-use mathlib.Core.Bool.{true}
+use mathlib.Core.Path.{_≡_, refl, sym, _∙_}
+use mathlib.Core.Bool.{true, false≢true}
 use mathlib.Core.Logic.{_≢_, ⊎-elim, by-cases}
 use mathlib.Core.List.{List, [], _∷_}
 use Prim.Native.Nat.{ℕ, zero, suc, _+_, _*_, _≤_, _<_}
@@ -9,12 +9,14 @@ use native.Mathlib.Nat.{le-antisymm, eq-or-lt-of-le, le-of-suc-le-suc}
 use native.Mathlib.Decide.{ℕ-discrete}
 use native.Mathlib.Numerals.{add-one}
 use native.Mathlib.Omega.{arith}
+use lib.Dec.{eqb}
+use borrow.Author.Tests.{eqb-true}
 use lib.ListN.{length, length-append, List·getD-append, List·getD-eq-default}
 use lib.Seq.{getD-at}
 use Rattle.counting.specs.Words.{sumOf}
 use Rattle.counting.specs.Lists.{at, has}
 use Rattle.counting.specs.Buffers.{joined, listOf}
-use Rattle.counting.proofs.Membership.{has-head, has-tail}
+use Rattle.counting.proofs.Membership.{has-head, has-tail, or-cases}
 
 -- a list made by a function has n numbers
 pub listOf-length : (n : ℕ) (f : ℕ → ℕ) → length (listOf n f) ≡ n
@@ -70,3 +72,15 @@ sum-end f i n x a b e = rw (le-antisymm b a) at e
 -- past the end of a list stands 0
 pub at-past : (list : List ℕ) (i : ℕ) → length list ≤ i → at list i ≡ 0
 at-past list i l = List·getD-eq-default list 0 l
+
+-- functions that agree make the same list
+pub listOf-same : (n : ℕ) (f g : ℕ → ℕ) → ((i : ℕ) → i < n → f i ≡ g i) → listOf n f ≡ listOf n g
+unfolding joined
+listOf-same zero f g h = refl
+listOf-same (suc n) f g h = rw (listOf-same n f g (λ i l. h i (omega arith)), h n (omega arith)) refl
+
+-- what stands in a list stands at an index
+pub has-index : (a : ℕ) (S : List ℕ) → has a S ≡ true → (i : ℕ) × (i < length S) × (at S i ≡ a)
+has-index a [] h = absurd (false≢true h)
+has-index a (b ∷ S) h =
+    ⊎-elim (λ e. (0, omega arith, sym (eqb-true a b e))) (λ e. let (i, l, q) = has-index a S e in (suc i, omega arith, q)) (or-cases (eqb a b) (has a S) h)

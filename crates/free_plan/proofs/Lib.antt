@@ -1,3 +1,4 @@
 pub mod Totals
 pub mod Sites
 pub mod Bound
+pub mod Agree

@@ -30,7 +30,7 @@ held-none v n =
       chosen-size = length-replicate {A = ℕ} 64 0;
       bests-size = length-replicate {A = ℕ} 400 0;
       marks = marks-none;
-      bests = λ s l. nought s (decLt s 400)
+      bests = λ s l. nought s (decLt s 400);
     }
   where
     nought : (s : ℕ) → Dec (s < 400) → at (replicate 400 0) s ≡ 0
@@ -47,7 +47,7 @@ stateWith state site bests =
       chosen = set (state .chosen) (state .count) site;
       count = state .count + 1;
       marks = set (state .marks) site true;
-      bests = bests
+      bests = bests;
     }
 
 pub sites-more : (v : ℕ → ℕ → ℕ) (n : ℕ) (state : State) (site : ℕ) (bests : List ℕ) → Held v n state → state .count < 64
@@ -69,9 +69,9 @@ held-more v n state site part bests h l small few t e =
       bests-size = ap length e ∙ omega (arith, length-append part (drop n (state .bests)), length-drop n (state .bests), h .bests-size);
       marks = rw sites (marks-more (state .marks) (sitesOf state) site small (h .marks));
       bests = λ s ls.
-        let now : at bests s ≡ at part s = ap (λ (b : List ℕ). at b s) e ∙ List·getD-append part (drop n (state .bests)) 0 s (omega arith) in
-        let old : at (take n (state .bests)) s ≡ best (v s) (sitesOf state) = getD-take n (state .bests) s 0 ls ∙ h .bests s ls in
-        now ∙ t .done s (omega arith) ∙ ap (λ (x : ℕ). max x (v s site)) old ∙ best-with (v s) (sitesOf state) site ∙ ap (λ (S : List ℕ). best (v s) S) (sym sites)
+          let now : at bests s ≡ at part s = ap (λ (b : List ℕ). at b s) e ∙ List·getD-append part (drop n (state .bests)) 0 s (omega arith) in
+          let old : at (take n (state .bests)) s ≡ best (v s) (sitesOf state) = getD-take n (state .bests) s 0 ls ∙ h .bests s ls in
+          now ∙ t .done s (omega arith) ∙ ap (λ (x : ℕ). max x (v s site)) old ∙ best-with (v s) (sitesOf state) site ∙ ap (λ (S : List ℕ). best (v s) S) (sym sites);
     }
 
 -- each street's best is a score
@@ -90,8 +90,8 @@ choice-is v n m state h low few =
     greatest-same (unflagged (state .marks)) (unchosen (sitesOf state)) _ (totalWith v n (sitesOf state)) m
     (λ a l. ap (λ (t : Bool). ltb 0 a && not t) (h .marks .right a (omega arith)))
     (λ a l y.
-      ap (λ (k : ℕ). sumOf k (λ s. max (at (take n (state .bests)) s) (v s a))) whole
-      ∙ sumOf-same n _ _ (λ s ls. ap (λ (x : ℕ). max x (v s a)) (getD-take n (state .bests) s 0 ls ∙ h .bests s ls) ∙ best-with (v s) (sitesOf state) a))
+    ap (λ (k : ℕ). sumOf k (λ s. max (at (take n (state .bests)) s) (v s a))) whole
+    ∙ sumOf-same n _ _ (λ s ls. ap (λ (x : ℕ). max x (v s a)) (getD-take n (state .bests) s 0 ls ∙ h .bests s ls) ∙ best-with (v s) (sitesOf state) a))
 
 -- the sum of the bests is the total of the sites
 pub total-is : (v : ℕ → ℕ → ℕ) (n : ℕ) (state : State) → Held v n state → sumOf n (at (take n (state .bests))) ≡ total v n (sitesOf state)

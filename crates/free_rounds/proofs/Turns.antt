@@ -77,9 +77,9 @@ summed-more v bests row m s before now h t same low-best low-row =
     record {
       size = t .size ∙ h .size;
       right = λ a l.
-        let w : at now a ≡ at before a + max (at bests s) (at row a) = t .done a (omega (arith, h .size)) in
-        rw (add-one s) (w ∙ ap (λ (x : ℕ). at before a + max (at bests s) x) (same a l) ∙ ap (λ (x : ℕ). x + max (at bests s) (v s a)) (h .right a l));
-      small = λ a. small a (decLt a (length before))
+          let w : at now a ≡ at before a + max (at bests s) (at row a) = t .done a (omega (arith, h .size)) in
+          rw (add-one s) (w ∙ ap (λ (x : ℕ). at before a + max (at bests s) x) (same a l) ∙ ap (λ (x : ℕ). x + max (at bests s) (v s a)) (h .right a l));
+      small = λ a. small a (decLt a (length before));
     }
   where
     small : (a : ℕ) → Dec (a < length before) → at now a ≤ (s + 1) * 99000
@@ -96,7 +96,7 @@ row-ready values bests sums m s n v t low l h =
       size = length-take-le (m + 1) (drop (s * (m + 1)) values) fits ∙ sym (h .size);
       small-score = low s;
       small = row-small values m s (t .small);
-      room = λ a. omega (arith, h .small a, t .few-streets)
+      room = λ a. omega (arith, h .small a, t .few-streets);
     })
 
 pub summed-turn : (values bests : List ℕ) (m s : ℕ) (before now : List ℕ) → Scores values → Scores bests → Summed (valueIn values m) bests m before s
@@ -112,9 +112,10 @@ summed-end v bests m sums i n a l h = rw (le-antisymm l a) at h
 
 -- a table of at most 400 streets and 64 sites: where its rows end
 pub row-ends : (n m s : ℕ) (values : List ℕ) → Table n m values → s < n → (s * (m + 1) + (m + 1) ≤ length values) × (length values ≤ 26000)
-row-ends n m s values t l =
-    (omega (arith, row-within n (m + 1) s l, t .size),
-    omega (arith, t .size, mul-le-mul {n₁ = n} {m₁ = m + 1} {n₂ = 400} {m₂ = 65} (t .few-streets) (omega (arith, t .few-sites))))
+row-ends n m s values t l = (
+  omega (arith, row-within n (m + 1) s l, t .size),
+  omega (arith, t .size, mul-le-mul {n₁ = n} {m₁ = m + 1} {n₂ = 400} {m₂ = 65} (t .few-streets) (omega (arith, t .few-sites))),
+)
 
 -- ---- the sums of a round, as a part of an array of 65
 pub sums-blank : (m : ℕ) → m ≤ 64 → Zeros (take (m + 1) (replicate 65 0)) (m + 1)

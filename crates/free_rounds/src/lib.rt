@@ -9,7 +9,6 @@ ghost use Rattle.free_plan.specs.Greedy.{pick, greedy};
 ghost use Rattle.free_rounds.specs.Held.{Held, Table, sitesOf, emptyState};
 
 pub mod pick;
-pub mod serve;
 pub mod sums;
 
 // The sites chosen so far in order of choice, a flag for each of them, and the best score that they give each street.
@@ -68,21 +67,8 @@ impl State {
     }
 }
 
-// The state after k rounds.
-pub fn rounds(values: &[u32], n: usize, m: usize, k: usize) -> State
-    requires { ⌜ Table n m (now values) × (k ≤ m) ⌝ }
-    ensures sites { λ r. ⌜ (r .count ≡ k) × (sitesOf r ≡ greedy (valueIn (now (values .entry)) m) n m k []) ⌝ }
-    ensures held { λ r. ⌜ Held (valueIn (now (values .entry)) m) n r ⌝ }
-{
-    let mut state = State::empty();
-    for i in 0..k {
-        state = state.round(values, n, m);
-    }
-    state
-}
-
 // The state with the sites of a given list.
-pub fn taken(values: &[u32], n: usize, m: usize, sites: &[u8]) -> State
+fn taken(values: &[u32], n: usize, m: usize, sites: &[u8]) -> State
     requires { ⌜ Table n m (now values) ⌝ }
     requires { ⌜ (length (now sites) ≤ 64) × ((i : ℕ) → at (now sites) i ≤ m) ⌝ }
     ensures sites { λ r. ⌜ (r .count ≡ length (now (sites .entry))) × (sitesOf r ≡ now (sites .entry)) ⌝ }
@@ -91,6 +77,20 @@ pub fn taken(values: &[u32], n: usize, m: usize, sites: &[u8]) -> State
     let mut state = State::empty();
     for i in 0..sites.len() {
         state = state.taking(values, n, m, sites[i]);
+    }
+    state
+}
+
+// The state after k rounds from a given list of sites.
+pub fn rounds(values: &[u32], n: usize, m: usize, sites: &[u8], k: usize) -> State
+    requires { ⌜ Table n m (now values) ⌝ }
+    requires { ⌜ (length (now sites) + k ≤ m) × ((i : ℕ) → at (now sites) i ≤ m) ⌝ }
+    ensures sites { λ r. ⌜ (r .count ≡ length (now (sites .entry)) + k) × (sitesOf r ≡ greedy (valueIn (now (values .entry)) m) n m k (now (sites .entry))) ⌝ }
+    ensures held { λ r. ⌜ Held (valueIn (now (values .entry)) m) n r ⌝ }
+{
+    let mut state = taken(values, n, m, sites);
+    for i in 0..k {
+        state = state.round(values, n, m);
     }
     state
 }

@@ -1,66 +1,64 @@
 use borrow.Author.Needs.{needs}
 use mathlib.Core.Path.{_≡_, refl, sym, ap, _∙_}
 use mathlib.Core.List.{List, [], _∷_, _++_}
-use Prim.Native.Nat.{ℕ, _≤_, _-_, _+_, _*_, max}
+use Prim.Native.Nat.{ℕ, _≤_, _-_, _+_}
 use native.Mathlib.Omega.{arith}
-use lib.ListN.{length, take, drop, getD}
-use lib.Seq.{length-take-le}
+use lib.ListN.{length}
 use Rattle.values.specs.Table.{valueIn}
 use Rattle.free_plan.specs.Greedy.{pick, greedy}
 use Rattle.free_plan.proofs.Sites.{greedy-next}
 use Rattle.free_rounds.specs.Held.{Held, sitesOf}
-use Rattle.free_rounds.proofs.Rounded.{start-holds}
 use Rattle.free_rounds.proofs.rounds.Statement.{statement}
 use Rattle.free_rounds.proofs.rounds.Tie as tie
 use Rattle.free_rounds.proofs.rounds.Reads as reads
 use Rattle.free_rounds.proofs.rounds.Lts as lts
-use Rattle.free_rounds.proofs.State.empty.Reads as empty-reads
 use Rattle.free_rounds.proofs.State.round.Reads as round-reads
+use Rattle.free_rounds.proofs.taken.Reads as taken-reads
 
 abbrev Inv-loop : tie.InvT-loop
-Inv-loop values n m k state₀ i₀ state i = 
-    (i ≤ k) × (state .count ≡ i) × (sitesOf state ≡ greedy (valueIn values m) n m i []) × Held (valueIn values m) n state
+Inv-loop values n m sites k state₀ i₀ state i = 
+    (i ≤ k) × (state .count ≡ length sites + i) × (sitesOf state ≡ greedy (valueIn values m) n m i sites) × Held (valueIn values m) n state
 
 abbrev μ-loop : tie.MeasureT-loop
-μ-loop values n m k state₀ i₀ state i = k - i
+μ-loop values n m sites k state₀ i₀ state i = k - i
 
--- src/lib.rt:77:9
-empty-requires : tie.Need-empty-requires Inv-loop μ-loop
-empty-requires c κs = search needs
+-- src/lib.rt:91:9
+taken-requires : tie.Need-taken-requires Inv-loop μ-loop
+taken-requires c κs = let p = c .before .before .pre in (p .0, (omega (arith, p .1 .0, p .0 .few-sites), p .1 .1))
 
--- src/lib.rt:78:5
+-- src/lib.rt:92:5
 loop-holds : tie.Need-loop-holds Inv-loop μ-loop
-loop-holds c = let t = start-holds _ _ _ (c .empty .ensures) in (omega arith, t .0, t .1, t .2)
+loop-holds c = let t = c .taken .ensures in (omega arith, omega (arith, t .0 .0), t .0 .1, t .1)
 
--- src/lib.rt:79:9
+-- src/lib.rt:93:9
 round-requires : tie.Need-round-requires Inv-loop μ-loop
-round-requires c κs = let l = c .before .loop in let p = c .before .before .before .before .pre in (p .0, (l .inv .3, omega (arith, l .inv .1, p .1)))
+round-requires c κs = let l = c .before .loop in let p = c .before .before .before .before .before .pre in (p .0, (l .inv .3, omega (arith, l .inv .1, p .1 .0)))
 
--- src/lib.rt:78:9
+-- src/lib.rt:92:9
 add-i : tie.Need-add-i Inv-loop μ-loop
 add-i c = search needs
 
--- src/lib.rt:78:5
+-- src/lib.rt:92:5
 loop-less : tie.Need-loop-less Inv-loop μ-loop
 loop-less c = search needs
 
--- src/lib.rt:78:5
+-- src/lib.rt:92:5
 loop-again : tie.Need-loop-again Inv-loop μ-loop
 loop-again c = 
-    let a = c .before .before .before .before .before .args in
+    let a = c .before .before .before .before .before .before .args in
     let l = c .before .before .loop in
     let t = c .round .ensures in
     let v = valueIn (a .values .now) (a .m) in
-    (omega arith, t .0 .0 ∙ ap (λ (x : ℕ). x + 1) (l .inv .1),
-    t .0 .1 ∙ ap (λ (S : List ℕ). S ++ (pick v (a .n) (a .m) S ∷ [])) (l .inv .2) ∙ sym (greedy-next v (a .n) (a .m) (l .i) []), t .1)
+    (omega arith, omega (arith, t .0 .0, l .inv .1),
+    t .0 .1 ∙ ap (λ (S : List ℕ). S ++ (pick v (a .n) (a .m) S ∷ [])) (l .inv .2) ∙ sym (greedy-next v (a .n) (a .m) (l .i) (a .sites .now)), t .1)
 
--- src/lib.rt:72:1
+-- src/lib.rt:85:1
 returns : tie.Need-returns Inv-loop μ-loop
 returns c = 
-    let a = c .before .before .before .before .args in
+    let a = c .before .before .before .before .before .args in
     let l = c .before .loop in
     let e : l .i ≡ a .k = omega arith in
-    ((l .inv .1 ∙ e, l .inv .2 ∙ ap (λ (x : ℕ). greedy (valueIn (a .values .now) (a .m)) (a .n) (a .m) x []) e), l .inv .3)
+    ((omega (arith, l .inv .1), l .inv .2 ∙ ap (λ (x : ℕ). greedy (valueIn (a .values .now) (a .m)) (a .n) (a .m) x (a .sites .now)) e), l .inv .3)
 
 pub rounds-spec : {M : Type 1} → statement M
 rounds-spec =
@@ -68,7 +66,7 @@ rounds-spec =
     (tie.spec
     Inv-loop
     μ-loop
-    empty-requires
+    taken-requires
     loop-holds
     round-requires
     add-i

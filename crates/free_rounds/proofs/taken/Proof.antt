@@ -16,7 +16,7 @@ use Rattle.free_rounds.proofs.State.empty.Reads as empty-reads
 use Rattle.free_rounds.proofs.State.taking.Reads as taking-reads
 
 abbrev Inv-loop : tie.InvT-loop
-Inv-loop values n m sites state₀ i₀ i-end state i = 
+Inv-loop values n m sites state₀ i₀ i-end state i =
     (i ≤ i-end) × (i-end ≡ length sites) × (state .count ≡ i) × (sitesOf state ≡ take i sites) × Held (valueIn values m) n state
 
 abbrev μ-loop : tie.MeasureT-loop
@@ -36,7 +36,7 @@ shared-slice-read-taking c = search needs
 
 -- src/lib.rt:93:9
 taking-requires : tie.Need-taking-requires Inv-loop μ-loop
-taking-requires c κs = 
+taking-requires c κs =
     let l = c .before .before .loop in
     let p = c .before .before .before .before .before .before .pre in
     (p .0, (l .inv .4, (p .1 .1 (l .i), omega (arith, l .inv .2, p .1 .0))))
@@ -51,16 +51,20 @@ loop-less c = search needs
 
 -- src/lib.rt:92:5
 loop-again : tie.Need-loop-again Inv-loop μ-loop
-loop-again c = 
+loop-again c =
     let sites = c .before .before .before .before .before .before .before .args .sites .now in
     let l = c .before .before .before .loop in
-    let t = c .taking .ensures in
-    (omega arith, refl, t .0 .0 ∙ ap (λ (x : ℕ). x + 1) (l .inv .2),
-    t .0 .1 ∙ ap (λ (S : List ℕ). S ++ (getD sites (l .i) 0 ∷ [])) (l .inv .3) ∙ sym (take-next sites (l .i) (omega arith)), t .1)
+    let t = c .taking .ensures in (
+      omega arith,
+      refl,
+      t .0 .0 ∙ ap (λ (x : ℕ). x + 1) (l .inv .2),
+      t .0 .1 ∙ ap (λ (S : List ℕ). S ++ (getD sites (l .i) 0 ∷ [])) (l .inv .3) ∙ sym (take-next sites (l .i) (omega arith)),
+      t .1,
+    )
 
 -- src/lib.rt:85:1
 returns : tie.Need-returns Inv-loop μ-loop
-returns c = 
+returns c =
     let sites = c .before .before .before .before .before .args .sites .now in
     let l = c .before .loop in
     ((omega (arith, l .inv .2), l .inv .3 ∙ take-all (l .i) sites (omega arith)), l .inv .4)

@@ -22,7 +22,7 @@ array-share-prefix-bests c = search needs
 
 -- src/lib.rt:65:41
 slice-aggregate-choose : tie.Need-slice-aggregate-choose
-slice-aggregate-choose c = 
+slice-aggregate-choose c =
     let a = c .before .before .before .before .args in
     let p = c .before .before .before .before .pre in
     let whole = length-take-le (a .n) (a .self .bests) (omega (arith, p .0 .few-streets, p .1 .0 .bests-size)) in
@@ -34,7 +34,7 @@ slice-aggregate-choose-2 c = search needs
 
 -- src/lib.rt:65:13
 choose-requires : tie.Need-choose-requires
-choose-requires c κs = 
+choose-requires c κs =
     let a = c .before .before .before .before .before .args in
     let p = c .before .before .before .before .before .pre in
     let whole = length-take-le (a .n) (a .self .bests) (omega (arith, p .0 .few-streets, p .1 .0 .bests-size)) in
@@ -42,7 +42,7 @@ choose-requires c κs =
 
 -- src/lib.rt:66:42
 cast-taking : tie.Need-cast-taking
-cast-taking c = 
+cast-taking c =
     let a = c .before .before .before .before .before .before .args in
     let p = c .before .before .before .before .before .before .pre in
     let low : c .choose .result ≤ a .m = chosen-le _ _ (a .m) _ (c .choose .ensures) in
@@ -50,7 +50,7 @@ cast-taking c =
 
 -- src/lib.rt:66:9
 taking-requires : tie.Need-taking-requires
-taking-requires c κs = 
+taking-requires c κs =
     let a = c .before .before .before .before .before .before .args in
     let p = c .before .before .before .before .before .before .pre in
     let low : c .choose .result ≤ a .m = chosen-le _ _ (a .m) _ (c .choose .ensures) in
@@ -58,7 +58,7 @@ taking-requires c κs =
 
 -- src/lib.rt:56:5
 returns : tie.Need-returns
-returns c = 
+returns c =
     let a = c .before .before .before .before .before .before .before .args in
     let p = c .before .before .before .before .before .before .before .pre in
     let t = c .taking .ensures in

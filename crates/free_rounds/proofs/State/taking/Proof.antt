@@ -31,14 +31,14 @@ array-borrow-prefix-bests c = search needs
 
 -- src/lib.rt:50:21
 slice-aggregate-raise : tie.Need-slice-aggregate-raise
-slice-aggregate-raise c = 
+slice-aggregate-raise c =
     let a = c .before .before .before .args in
     let p = c .before .before .before .pre in
     sym (length-take-le (a .n) (a .t1 .bests) (omega (arith, p .0 .few-streets, p .1 .0 .bests-size)))
 
 -- src/lib.rt:50:9
 raise-requires : tie.Need-raise-requires
-raise-requires c κs = 
+raise-requires c κs =
     let a = c .before .before .before .args in
     let p = c .before .before .before .pre in
     let whole = length-take-le (a .n) (a .t1 .bests) (omega (arith, p .0 .few-streets, p .1 .0 .bests-size)) in
@@ -46,14 +46,15 @@ raise-requires c κs =
 
 -- src/lib.rt:37:5
 returns : tie.Need-returns
-returns c = 
+returns c =
     let a = c .before .before .before .before .before .args in
     let p = c .before .before .before .before .before .pre in
     let v = valueIn (a .values .now) (a .m) in
     let part = c .before .raise .last .0 in
-    let bests = part ++ drop (a .n) (a .t1 .bests) in
-    ((refl, sites-more v (a .n) (a .t1) (a .site) bests (p .1 .0) (p .1 .1 .1)),
-    held-more v (a .n) (a .t1) (a .site) part bests (p .1 .0) (p .1 .1 .1) (omega (arith, p .1 .1 .0, p .0 .few-sites)) (p .0 .few-streets) (c .before .raise .ensures) refl)
+    let bests = part ++ drop (a .n) (a .t1 .bests) in (
+      (refl, sites-more v (a .n) (a .t1) (a .site) bests (p .1 .0) (p .1 .1 .1)),
+      held-more v (a .n) (a .t1) (a .site) part bests (p .1 .0) (p .1 .1 .1) (omega (arith, p .1 .1 .0, p .0 .few-sites)) (p .0 .few-streets) (c .before .raise .ensures) refl,
+    )
 
 pub taking-spec : {M : Type 1} → statement M
 taking-spec =

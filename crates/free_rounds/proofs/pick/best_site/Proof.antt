@@ -59,14 +59,14 @@ loop-less c = search needs
 
 -- src/pick.rt:45:5
 loop-again : tie.Need-loop-again Inv-loop μ-loop
-loop-again c = 
+loop-again c =
     let l = c .before .before .before .before .before .loop in
     let a = c .before .before .before .before .before .before .before .before .args in
     (omega arith, better-turn (l .inv .1) (mark-is (a .sums .now) (a .marks .now) (l .i) _ (c .before .mark .ensures)) (c .better .ensures))
 
 -- src/pick.rt:40:1
 returns : tie.Need-returns Inv-loop μ-loop
-returns c = 
+returns c =
     let l = c .before .loop in
     let a = c .before .before .before .before .args in
     marks-end (a .sums .now) (a .marks .now) (l .i) (a .m) _ _ (omega arith) (omega arith) (l .inv .1)

@@ -24,21 +24,21 @@ array-borrow-prefix-sums c = search needs
 
 -- src/pick.rt:59:41
 slice-aggregate-sum-streets : tie.Need-slice-aggregate-sum-streets
-slice-aggregate-sum-streets c = 
+slice-aggregate-sum-streets c =
     let a = c .before .before .before .before .args in
     let p = c .before .before .before .before .pre in
     sym (sums-blank (a .m) (p .0 .few-sites) .0)
 
 -- src/pick.rt:59:5
 sum-streets-requires : tie.Need-sum-streets-requires
-sum-streets-requires c κs = 
+sum-streets-requires c κs =
     let a = c .before .before .before .before .args in
     let p = c .before .before .before .before .pre in
     (p .0, (p .1, sums-blank (a .m) (p .0 .few-sites)))
 
 -- src/pick.rt:60:15
 array-share-prefix-sums : tie.Need-array-share-prefix-sums
-array-share-prefix-sums c = 
+array-share-prefix-sums c =
     let a = c .before .before .before .before .before .before .args in
     let p = c .before .before .before .before .before .before .pre in
     let h = c .before .sum-streets .ensures in
@@ -46,7 +46,7 @@ array-share-prefix-sums c =
 
 -- src/pick.rt:60:15
 slice-aggregate-best-site : tie.Need-slice-aggregate-best-site
-slice-aggregate-best-site c = 
+slice-aggregate-best-site c =
     let a = c .before .before .before .before .before .before .before .args in
     let p = c .before .before .before .before .before .before .before .pre in
     let h = c .before .before .sum-streets .ensures in
@@ -54,7 +54,7 @@ slice-aggregate-best-site c =
 
 -- src/pick.rt:60:5
 best-site-requires : tie.Need-best-site-requires
-best-site-requires c κs = 
+best-site-requires c κs =
     let a = c .before .before .before .before .before .before .before .args in
     let p = c .before .before .before .before .before .before .before .pre in
     let h = c .before .before .sum-streets .ensures in
@@ -62,7 +62,7 @@ best-site-requires c κs =
 
 -- src/pick.rt:53:1
 returns : tie.Need-returns
-returns c = 
+returns c =
     let a = c .before .before .before .before .before .before .before .before .args in
     let p = c .before .before .before .before .before .before .before .before .pre in
     let h = c .before .before .before .sum-streets .ensures in

@@ -44,7 +44,7 @@ greater-requires c κs = search needs
 
 -- src/sums.rt:41:19
 add-sums : tie.Need-add-sums Inv-loop μ-loop
-add-sums c = 
+add-sums c =
     let l = c .before .before .before .before .loop in
     let p = c .before .before .before .before .before .before .before .pre in
     omega (arith, c .greater .ensures, l .inv .2 .rest (l .a) (omega arith), p .room (l .a), p .small (l .a), p .small-score)
@@ -67,7 +67,7 @@ loop-less c = search needs
 
 -- src/sums.rt:40:5
 loop-again : tie.Need-loop-again Inv-loop μ-loop
-loop-again c = 
+loop-again c =
     let l = c .before .before .before .before .loop in
     let e = ap (λ (x : ℕ). at (l .sums) (l .a) + x) (c .greater .ensures) in
     (omega arith, refl, mapped-more _ _ (l .sums) (l .a) _ (omega arith) (l .inv .2) e)

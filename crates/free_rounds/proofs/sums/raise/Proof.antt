@@ -35,7 +35,7 @@ slice-read-greater c = search needs
 
 -- src/sums.rt:31:38
 value-requires : tie.Need-value-requires Inv-loop μ-loop
-value-requires c κs = 
+value-requires c κs =
     let a = c .before .before .before .before .before .args in
     let p = c .before .before .before .before .before .pre in
     (omega (arith, in-rows (length (a .bests .now)) (a .m) (c .before .before .loop .s) (a .a) (omega arith) (p .1), p .0 .size), p .0 .few-sites)
@@ -62,7 +62,7 @@ loop-less c = search needs
 
 -- src/sums.rt:30:5
 loop-again : tie.Need-loop-again Inv-loop μ-loop
-loop-again c = 
+loop-again c =
     let l = c .before .before .before .before .loop in
     let e = c .greater .ensures ∙ ap (λ (x : ℕ). max (at (l .bests) (l .s)) x) (c .before .value .ensures) in
     (omega arith, refl, mapped-more _ _ (l .bests) (l .s) _ (omega arith) (l .inv .2) e)

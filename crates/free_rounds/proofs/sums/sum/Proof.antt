@@ -43,14 +43,14 @@ loop-less c = search needs
 
 -- src/sums.rt:65:5
 loop-again : tie.Need-loop-again Inv-loop μ-loop
-loop-again c = 
+loop-again c =
     let l = c .before .before .loop in
     let e = ap (λ (x : ℕ). x + at (c .before .before .before .args .bests .now) (l .s)) (l .inv .2) ∙ sym (sumOf-next (l .s) _) in
     (omega arith, refl, e, omega (arith, c .before .before .before .pre .0 (l .s)))
 
 -- src/sums.rt:60:1
 returns : tie.Need-returns Inv-loop μ-loop
-returns c = 
+returns c =
     let l = c .before .loop in
     let bests = c .before .before .args .bests .now in
     sum-end (at bests) (l .s) (length bests) _ (omega arith) (omega arith) (l .inv .2)

@@ -14,7 +14,7 @@ use Rattle.free_rounds.proofs.sums.sum_streets.Lts as lts
 use Rattle.free_rounds.proofs.sums.add_street.Reads as add-street-reads
 
 abbrev Inv-loop : tie.InvT-loop
-Inv-loop values bests m sums₀ width s₀ s-end sums s = 
+Inv-loop values bests m sums₀ width s₀ s-end sums s =
     (s ≤ s-end) × (s-end ≡ length bests) × (width ≡ m + 1) × (length sums ≡ length sums₀) × Summed (valueIn values m) bests m sums s
 
 abbrev μ-loop : tie.MeasureT-loop
@@ -30,21 +30,21 @@ loop-holds c = let p = c .before .before .before .pre in (search needs, refl, re
 
 -- src/sums.rt:54:20
 mul-from : tie.Need-mul-from Inv-loop μ-loop
-mul-from c = 
+mul-from c =
     let a = c .before .before .before .before .before .args in
     let e = row-ends (length (a .bests .now)) (a .m) (c .before .loop .s) (a .values .now) (c .before .before .before .before .before .pre .0) (omega arith) in
     omega arith
 
 -- src/sums.rt:55:18
 add-to : tie.Need-add-to Inv-loop μ-loop
-add-to c = 
+add-to c =
     let a = c .before .before .before .before .before .args in
     let e = row-ends (length (a .bests .now)) (a .m) (c .before .loop .s) (a .values .now) (c .before .before .before .before .before .pre .0) (omega arith) in
     omega arith
 
 -- src/sums.rt:56:20
 mul-add-street : tie.Need-mul-add-street Inv-loop μ-loop
-mul-add-street c = 
+mul-add-street c =
     let a = c .before .before .before .before .before .args in
     let e = row-ends (length (a .bests .now)) (a .m) (c .before .loop .s) (a .values .now) (c .before .before .before .before .before .pre .0) (omega arith) in
     omega arith
@@ -59,7 +59,7 @@ part-add-street-start c = search needs
 
 -- src/sums.rt:56:20
 part-add-street-end : tie.Need-part-add-street-end Inv-loop μ-loop
-part-add-street-end c = 
+part-add-street-end c =
     let a = c .before .before .before .before .before .args in
     let e = row-ends (length (a .bests .now)) (a .m) (c .before .loop .s) (a .values .now) (c .before .before .before .before .before .pre .0) (omega arith) in
     omega arith
@@ -74,7 +74,7 @@ shared-slice-read-add-street c = search needs
 
 -- src/sums.rt:56:9
 add-street-requires : tie.Need-add-street-requires Inv-loop μ-loop
-add-street-requires c κs = 
+add-street-requires c κs =
     let a = c .before .before .before .before .before .before .before .before .args in
     let p = c .before .before .before .before .before .before .before .before .pre in
     let l = c .before .before .before .before .loop in
@@ -90,7 +90,7 @@ loop-less c = search needs
 
 -- src/sums.rt:53:5
 loop-again : tie.Need-loop-again Inv-loop μ-loop
-loop-again c = 
+loop-again c =
     let a = c .before .before .before .before .before .before .before .before .before .before .before .args in
     let p = c .before .before .before .before .before .before .before .before .before .before .before .pre in
     let l = c .before .before .before .before .before .before .before .loop in

@@ -10,14 +10,14 @@ use Rattle.counting.proofs.Filling.{mapped-none, mapped-more, mapped-end, mappe
 use Rattle.survey.specs.Rows.{listOfStreet}
 use Rattle.survey.proofs.Laws.{row-within}
 use Rattle.free_plan.specs.Greedy.{goesTo}
-use Rattle.free_rounds.proofs.serve.serve.Statement.{statement}
-use Rattle.free_rounds.proofs.serve.serve.Tie as tie
-use Rattle.free_rounds.proofs.serve.serve.Reads as reads
-use Rattle.free_rounds.proofs.serve.serve.Lts as lts
-use Rattle.free_rounds.proofs.serve.street.Reads as street-reads
+use Rattle.free_results.proofs.serve.serve.Statement.{statement}
+use Rattle.free_results.proofs.serve.serve.Tie as tie
+use Rattle.free_results.proofs.serve.serve.Reads as reads
+use Rattle.free_results.proofs.serve.serve.Lts as lts
+use Rattle.free_results.proofs.serve.street.Reads as street-reads
 
 abbrev Inv-loop : tie.InvT-loop
-Inv-loop rows m marks division₀ s₀ s-end division s = 
+Inv-loop rows m marks division₀ s₀ s-end division s =
     (s ≤ s-end) × (s-end ≡ length division₀)
     × Mapped (λ t x. goesTo (λ a. getD marks a false) (listOfStreet m rows t)) division₀ division s
 
@@ -30,7 +30,7 @@ loop-holds c = (search needs, refl, mapped-none _ _)
 
 -- src/serve.rt:50:23
 street-requires : tie.Need-street-requires Inv-loop μ-loop
-street-requires c κs = 
+street-requires c κs =
     let a = c .before .before .before .before .before .args in
     let p = c .before .before .before .before .before .pre in
     (omega (arith, row-within (length (a .division .now)) (a .m) (c .before .loop .s) (omega arith), p .0), p .1)

@@ -6,10 +6,10 @@ use lib.ListN.{length}
 use Rattle.counting.specs.Lists.{at}
 use Rattle.counting.specs.Buffers.{Mapped}
 use Rattle.counting.proofs.Filling.{mapped-none, mapped-more, mapped-list}
-use Rattle.free_rounds.proofs.serve.copy.Statement.{statement}
-use Rattle.free_rounds.proofs.serve.copy.Tie as tie
-use Rattle.free_rounds.proofs.serve.copy.Reads as reads
-use Rattle.free_rounds.proofs.serve.copy.Lts as lts
+use Rattle.free_results.proofs.serve.copy.Statement.{statement}
+use Rattle.free_results.proofs.serve.copy.Tie as tie
+use Rattle.free_results.proofs.serve.copy.Reads as reads
+use Rattle.free_results.proofs.serve.copy.Lts as lts
 
 abbrev Inv-loop : tie.InvT-loop
 Inv-loop list buffer₀ i₀ i-end buffer i = (i ≤ i-end) × (i-end ≡ length buffer₀) × Mapped (λ j x. at list j) buffer₀ buffer i

@@ -1,9 +1,9 @@
 use borrow.Author.Needs.{needs}
 use Rattle.counting.proofs.Refusals.{chain}
-use Rattle.free_rounds.proofs.serve.kept.Statement.{statement}
-use Rattle.free_rounds.proofs.serve.kept.Tie as tie
-use Rattle.free_rounds.proofs.serve.kept.Reads as reads
-use Rattle.free_rounds.proofs.serve.kept.Lts as lts
+use Rattle.free_results.proofs.serve.kept.Statement.{statement}
+use Rattle.free_results.proofs.serve.kept.Tie as tie
+use Rattle.free_results.proofs.serve.kept.Reads as reads
+use Rattle.free_results.proofs.serve.kept.Lts as lts
 
 -- src/serve.rt:12:1
 returns : tie.Need-returns

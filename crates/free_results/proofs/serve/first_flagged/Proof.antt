@@ -7,11 +7,11 @@ use mathlib.Core.Bool.{false}
 use Rattle.counting.specs.Words.{firstOf}
 use Rattle.counting.proofs.Refusals.{loop, first-next}
 use Rattle.free_plan.specs.Greedy.{chosenAt}
-use Rattle.free_rounds.proofs.serve.first_flagged.Statement.{statement}
-use Rattle.free_rounds.proofs.serve.first_flagged.Tie as tie
-use Rattle.free_rounds.proofs.serve.first_flagged.Reads as reads
-use Rattle.free_rounds.proofs.serve.first_flagged.Lts as lts
-use Rattle.free_rounds.proofs.serve.kept.Reads as kept-reads
+use Rattle.free_results.proofs.serve.first_flagged.Statement.{statement}
+use Rattle.free_results.proofs.serve.first_flagged.Tie as tie
+use Rattle.free_results.proofs.serve.first_flagged.Reads as reads
+use Rattle.free_results.proofs.serve.first_flagged.Lts as lts
+use Rattle.free_results.proofs.serve.kept.Reads as kept-reads
 
 abbrev Inv-loop : tie.InvT-loop
 Inv-loop list marks j₀ j-end j = (j ≤ j-end) × (j-end ≡ length list) × (firstOf j (chosenAt (λ a. getD marks a false) list) ≡ 0)

@@ -8,11 +8,11 @@ use mathlib.Core.Bool.{false}
 use Rattle.survey.specs.Rows.{rankedPart}
 use Rattle.survey.proofs.Laws.{row-part}
 use Rattle.free_plan.specs.Greedy.{goesTo}
-use Rattle.free_rounds.proofs.serve.street.Statement.{statement}
-use Rattle.free_rounds.proofs.serve.street.Tie as tie
-use Rattle.free_rounds.proofs.serve.street.Reads as reads
-use Rattle.free_rounds.proofs.serve.street.Lts as lts
-use Rattle.free_rounds.proofs.serve.first_flagged.Reads as first-flagged-reads
+use Rattle.free_results.proofs.serve.street.Statement.{statement}
+use Rattle.free_results.proofs.serve.street.Tie as tie
+use Rattle.free_results.proofs.serve.street.Reads as reads
+use Rattle.free_results.proofs.serve.street.Lts as lts
+use Rattle.free_results.proofs.serve.first_flagged.Reads as first-flagged-reads
 use Rattle.survey.proofs.rows.ranked.Reads as ranked-reads
 
 -- src/serve.rt:39:16
@@ -45,7 +45,7 @@ first-flagged-requires c κs = search needs
 
 -- src/serve.rt:35:1
 returns : tie.Need-returns
-returns c = 
+returns c =
     let a = c .before .before .before .before .before .args in
     let list = c .before .ranked .ensures ∙ ap (λ (row : List ℕ). rankedPart row) (row-part (a .m) (a .rows .now) (a .s)) in
     c .first-flagged .ensures ∙ ap (λ (l : List ℕ). goesTo (λ x. getD (a .marks .now) x false) l) list
