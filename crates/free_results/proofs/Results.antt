@@ -66,9 +66,9 @@ module _ (n m : ℕ) (scores rows : List ℕ) (ok : Accepted n m scores rows) (s
     goes s l =
         first-same (length (listOfStreet m rows s)) (chosenAt (λ a. getD (state .marks) a false) (listOfStreet m rows s)) (chosenAt (λ a. has a S) (listOfStreet m rows s))
         (λ j lj.
-          let site = at (listOfStreet m rows s) j in
-          let low : site < 256 = omega (arith, list-bound s l j, ok .few-sites) in
-          ap (λ (t : Bool). site when t) (held .marks .right site low ∙ ap (λ (T : List ℕ). has site T) sites))
+        let site = at (listOfStreet m rows s) j in
+        let low : site < 256 = omega (arith, list-bound s l j, ok .few-sites) in
+        ap (λ (t : Bool). site when t) (held .marks .right site low ∙ ap (λ (T : List ℕ). has site T) sites))
 
     pub served : (i : ℕ) (division : List ℕ) → i ≡ n → division ≡ listOf i (λ s. goesTo (λ a. getD (state .marks) a false) (listOfStreet m rows s))
         → division ≡ listOf n (λ s. goesTo (λ a. has a S) (listOfStreet m rows s))

@@ -32,7 +32,7 @@ module _ (n m : ℕ) (scores rows : List ℕ) (ok : Accepted n m scores rows) wh
   table-blank =
       record {
         size = length-take-le (n * (m + 1)) (replicate 26000 0) fits;
-        none = λ i. nought i (decLt i (n * (m + 1)))
+        none = λ i. nought i (decLt i (n * (m + 1)));
       }
     where
       nought : (i : ℕ) → Dec (i < n * (m + 1)) → at (take (n * (m + 1)) (replicate 26000 0)) i ≡ 0
@@ -83,5 +83,5 @@ module _ (n m : ℕ) (scores rows : List ℕ) (ok : Accepted n m scores rows) wh
             bests-size = held .bests-size;
             marks = held .marks;
             bests = λ s l. held .bests s l ∙ best-agree (valueIn (take (n * (m + 1)) (table ++ rest)) m) (value m scores rows) n m same s l (sitesOf state)
-              (subst (AtMost m) (sym sites) (greedy-most (valueIn (take (n * (m + 1)) (table ++ rest)) m) n m k start low))
+                (subst (AtMost m) (sym sites) (greedy-most (valueIn (take (n * (m + 1)) (table ++ rest)) m) n m k start low));
           }

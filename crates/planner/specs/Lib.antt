@@ -1,3 +1,4 @@
 pub mod Refusals
 pub mod Plans
 pub mod Answers
+pub mod Good

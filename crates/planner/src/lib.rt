@@ -1,8 +1,12 @@
 // The library: every entry that a caller may call. Each checks its own input, on any input whatever, and answers with its result or with
 // one of document 01's numbers; a refusal leaves the caller's buffers as they were.
 ghost use mathlib.Core.Path.{_≡_};
+ghost use mathlib.Core.Bool.{true};
 ghost use Rattle.survey.specs.Rows.{rankedPart, scoreOf};
-ghost use Rattle.planner.specs.Refusals.{checkRefusal, rowScoreRefusal};
+ghost use Rattle.counting.specs.Buffers.{after};
+ghost use Rattle.planner.specs.Refusals.{checkRefusal, rowScoreRefusal, listTotalRefusal, freeDivisionRefusal, freePlanRefusal};
+ghost use Rattle.planner.specs.Plans.{listTotal, freeDivision, freeSites};
+ghost use Rattle.planner.specs.Good.{GoodFree};
 ghost use Rattle.planner.specs.Answers.{Answered, Told, checkedNumber, checkedAccepts, number, accepts, total};
 
 mod tries;
@@ -46,4 +50,56 @@ pub fn row_score(m: usize, scores: &[u16], row: &[u8], site: u8) -> Answer
         return Answer::Refused(x);
     }
     Answer::Total(survey::rows::score(scores, row, site) as u32)
+}
+
+// The total of a list of sites, as in the free plan. Refuses with 1, 2, 3, 6, 8, 9, 10, 11, 17 or 20.
+pub fn list_total(n: usize, m: usize, scores: &[u16], rows: &[u8], sites: &[u8]) -> Answer
+    ensures { λ r. ⌜ Told (number r) (accepts r) (total r) (listTotalRefusal n m (now (scores .entry)) (now (rows .entry)) (now (sites .entry))) (listTotal n m (now (scores .entry)) (now (rows .entry)) (now (sites .entry))) ⌝ }
+{
+    let x = tries::list_total_refusal(n, m, scores, rows, sites);
+    if x != 0 {
+        return Answer::Refused(x);
+    }
+    Answer::Total(free_results::list_total(n, m, scores, rows, sites))
+}
+
+// The free division over a list of sites, into a buffer of n bytes. Refuses with 1, 2, 3, 6, 8, 9, 10, 11, 17 or 20.
+pub fn free_division(
+    n: usize,
+    m: usize,
+    scores: &[u16],
+    rows: &[u8],
+    sites: &[u8],
+    division: &mut [u8],
+) -> Answer
+    ensures answer { λ r. ⌜ Told (number r) (accepts r) (total r) (freeDivisionRefusal n m (now (scores .entry)) (now (rows .entry)) (now (sites .entry)) (now (division .entry))) (listTotal n m (now (scores .entry)) (now (rows .entry)) (now (sites .entry))) ⌝ }
+    ensures division { λ _. ⌜ now (division .exit) ≡ after (freeDivisionRefusal n m (now (scores .entry)) (now (rows .entry)) (now (sites .entry)) (now (division .entry))) (freeDivision n m (now (rows .entry)) (now (sites .entry))) (now (division .entry)) ⌝ }
+{
+    let x = tries::free_division_refusal(n, m, scores, rows, sites, division);
+    if x != 0 {
+        return Answer::Refused(x);
+    }
+    Answer::Total(free_results::divide(n, m, scores, rows, sites, division))
+}
+
+// The free plan of k sites, into buffers of n and of k bytes. Refuses with 1, 2, 3, 6, 8, 9, 10 or 11.
+pub fn free_plan(
+    n: usize,
+    m: usize,
+    k: usize,
+    scores: &[u16],
+    rows: &[u8],
+    division: &mut [u8],
+    chosen: &mut [u8],
+) -> Answer
+    ensures answer { λ r. ⌜ Told (number r) (accepts r) (total r) (freePlanRefusal n m k (now (scores .entry)) (now (rows .entry)) (now (division .entry)) (now (chosen .entry))) (listTotal n m (now (scores .entry)) (now (rows .entry)) (freeSites n m k (now (scores .entry)) (now (rows .entry)))) ⌝ }
+    ensures division { λ _. ⌜ now (division .exit) ≡ after (freePlanRefusal n m k (now (scores .entry)) (now (rows .entry)) (now (division .entry)) (now (chosen .entry))) (freeDivision n m (now (rows .entry)) (freeSites n m k (now (scores .entry)) (now (rows .entry)))) (now (division .entry)) ⌝ }
+    ensures chosen { λ _. ⌜ now (chosen .exit) ≡ after (freePlanRefusal n m k (now (scores .entry)) (now (rows .entry)) (now (division .entry)) (now (chosen .entry))) (freeSites n m k (now (scores .entry)) (now (rows .entry))) (now (chosen .entry)) ⌝ }
+    ensures good { λ r. ⌜ (accepts r ≡ true → GoodFree n m k (now (scores .entry)) (now (rows .entry)) (now (division .exit)) (now (chosen .exit)) (total r)) ⌝ }
+{
+    let x = tries::free_plan_refusal(n, m, k, scores, rows, division, chosen);
+    if x != 0 {
+        return Answer::Refused(x);
+    }
+    Answer::Total(free_results::plan(n, m, scores, rows, division, chosen))
 }

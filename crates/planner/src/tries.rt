@@ -2,7 +2,33 @@
 use survey::Survey;
 use survey::check;
 ghost use mathlib.Core.Path.{_≡_};
-ghost use Rattle.planner.specs.Refusals.{rowScoreRefusal};
+ghost use lib.ListN.{length};
+ghost use Rattle.counting.specs.Words.{_when_, _orElse_};
+ghost use Rattle.survey.specs.Refusals.{lengthRefusal, surveyRefusal};
+ghost use Rattle.planner.specs.Refusals.{rangeRefusal, rowScoreRefusal, rangesRefusal, twiceRefusal, listRefusal, listTotalRefusal, freeDivisionRefusal, buffersRefusal, freePlanRefusal};
+
+// 6: a lent buffer of other than its exact length.
+fn length_refusal(given: usize, due: usize) -> u8
+    ensures { λ r. ⌜ r ≡ lengthRefusal given due ⌝ }
+{
+    if given != due {
+        return 6;
+    }
+    0
+}
+
+// 17: a site outside a range.
+fn range_refusal(low: u8, m: usize, site: u8) -> u8
+    ensures { λ r. ⌜ r ≡ rangeRefusal low m site ⌝ }
+{
+    if site < low {
+        return 17;
+    }
+    if m < (site as usize) {
+        return 17;
+    }
+    0
+}
 
 // The first refusal of a row of m bytes and a site, with the scores.
 pub fn row_score_refusal(m: usize, scores: &[u16], row: &[u8], site: u8) -> u8
@@ -28,11 +54,115 @@ pub fn row_score_refusal(m: usize, scores: &[u16], row: &[u8], site: u8) -> u8
     if r != 0 {
         return r;
     }
-    if site < 1 {
-        return 17;
-    }
-    if m < (site as usize) {
-        return 17;
+    range_refusal(1, m, site)
+}
+
+// 17 all through a list of sites.
+pub fn ranges_refusal(low: u8, m: usize, sites: &[u8]) -> u8
+    ensures { λ r. ⌜ r ≡ rangesRefusal low m (now (sites .entry)) ⌝ }
+{
+    for j in 0..sites.len() {
+        let r = range_refusal(low, m, sites[j]);
+        if r != 0 {
+            return r;
+        }
     }
     0
+}
+
+// 20: a site that is listed before.
+fn again_refusal(again: bool) -> u8
+    ensures { λ r. ⌜ r ≡ 20 when again ⌝ }
+{
+    if again {
+        return 20;
+    }
+    0
+}
+
+// 20: a site that is listed twice. The table of sites seen so far spares a scan of the list for each site.
+pub fn twice_refusal(sites: &[u8]) -> u8
+    ensures { λ r. ⌜ r ≡ twiceRefusal (now (sites .entry)) ⌝ }
+{
+    let mut seen = [false; 256];
+    for j in 0..sites.len() {
+        let at = sites[j] as usize;
+        let r = again_refusal(seen[at]);
+        if r != 0 {
+            return r;
+        }
+        seen[at] = true;
+    }
+    0
+}
+
+// A given list of sites: 17 all through, then 20.
+pub fn list_refusal(m: usize, sites: &[u8]) -> u8
+    ensures { λ r. ⌜ r ≡ listRefusal m (now (sites .entry)) ⌝ }
+{
+    let r = ranges_refusal(1, m, sites);
+    if r != 0 {
+        return r;
+    }
+    twice_refusal(sites)
+}
+
+// A survey with a given list of sites; `own` is what the call tries besides between 3 and 8.
+fn listed_refusal(n: usize, m: usize, own: u8, scores: &[u16], rows: &[u8], sites: &[u8]) -> u8
+    ensures { λ r. ⌜ r ≡ surveyRefusal n m (length (now (sites .entry))) own (now (scores .entry)) (now (rows .entry)) orElse listRefusal m (now (sites .entry)) ⌝ }
+{
+    let r = check::survey_refusal(n, m, sites.len(), own, scores, rows);
+    if r != 0 {
+        return r;
+    }
+    list_refusal(m, sites)
+}
+
+// The total of a list of sites.
+pub fn list_total_refusal(n: usize, m: usize, scores: &[u16], rows: &[u8], sites: &[u8]) -> u8
+    ensures { λ r. ⌜ r ≡ listTotalRefusal n m (now (scores .entry)) (now (rows .entry)) (now (sites .entry)) ⌝ }
+{
+    listed_refusal(n, m, 0, scores, rows, sites)
+}
+
+// A free division over a list of sites.
+pub fn free_division_refusal(
+    n: usize,
+    m: usize,
+    scores: &[u16],
+    rows: &[u8],
+    sites: &[u8],
+    division: &[u8],
+) -> u8
+    ensures { λ r. ⌜ r ≡ freeDivisionRefusal n m (now (scores .entry)) (now (rows .entry)) (now (sites .entry)) (now (division .entry)) ⌝ }
+{
+    let own = length_refusal(division.len(), n);
+    listed_refusal(n, m, own, scores, rows, sites)
+}
+
+// 6 for the two buffers of a plan.
+fn buffers_refusal(n: usize, k: usize, division: &[u8], chosen: &[u8]) -> u8
+    ensures { λ r. ⌜ r ≡ buffersRefusal n k (now (division .entry)) (now (chosen .entry)) ⌝ }
+{
+    let r = length_refusal(division.len(), n);
+    if r != 0 {
+        return r;
+    }
+    length_refusal(chosen.len(), k)
+}
+
+// A free plan.
+pub fn free_plan_refusal(
+    n: usize,
+    m: usize,
+    k: usize,
+    scores: &[u16],
+    rows: &[u8],
+    division: &[u8],
+    chosen: &[u8],
+) -> u8
+    ensures { λ r. ⌜ r ≡ freePlanRefusal n m k (now (scores .entry)) (now (rows .entry)) (now (division .entry)) (now (chosen .entry)) ⌝ }
+{
+    let own = buffers_refusal(n, k, division, chosen);
+    check::survey_refusal(n, m, k, own, scores, rows)
 }

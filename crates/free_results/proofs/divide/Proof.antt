@@ -1,3 +1,4 @@
+-- `free_results::divide` meets its contract. Assumes nothing.
 use borrow.Author.Needs.{needs}
 use mathlib.Core.Path.{_≡_, refl, sym, ap, _∙_}
 use Prim.Native.Nat.{ℕ, _≤_}
@@ -7,49 +8,39 @@ use lib.Seq.{length-take-le}
 use Rattle.free_results.proofs.Results.{total-ready, total-found, serve-ready, served}
 use Rattle.free_results.proofs.divide.Statement.{statement}
 use Rattle.free_results.proofs.divide.Tie as tie
-use Rattle.free_results.proofs.divide.Reads as reads
-use Rattle.free_results.proofs.divide.Lts as lts
-use Rattle.free_results.proofs.planned.Reads as planned-reads
-use Rattle.free_results.proofs.serve.serve.Reads as serve-reads
-use Rattle.free_results.proofs.total_of.Reads as total-of-reads
 
--- src/lib.rt:62:9
 planned-requires : tie.Need-planned-requires
-planned-requires c κs = 
+planned-requires c κs =
     let a = c .before .before .before .before .args in
     let p = c .before .before .before .before .pre in
     (p .0 .0, (omega (arith, p .0 .1), p .0 .2))
 
--- src/lib.rt:64:27
 slice-aggregate-serve : tie.Need-slice-aggregate-serve
 slice-aggregate-serve c = search needs
 
--- src/lib.rt:64:5
 serve-requires : tie.Need-serve-requires
-serve-requires c κs = 
+serve-requires c κs =
     let a = c .before .before .before .before .before .before .before .before .args in
     let p = c .before .before .before .before .before .before .before .before .pre in
     serve-ready (a .n) (a .m) (a .scores .now) (a .rows .now) (p .0 .0) (c .before .before .before .planned .result) (c .before .before .before .planned .ensures .1) _ (p .1)
 
--- src/lib.rt:65:5
 total-of-requires : tie.Need-total-of-requires
-total-of-requires c κs = 
+total-of-requires c κs =
     let a = c .before .before .before .before .before .before .before .before .before .before .before .args in
     let p = c .before .before .before .before .before .before .before .before .before .before .before .pre in
     total-ready (a .n) (a .m) (a .scores .now) (a .rows .now) (p .0 .0) (c .before .before .before .before .before .before .planned .result) (c .before .before .before .before .before .before .planned .ensures .1)
 
--- src/lib.rt:49:1
 same-length : tie.Need-same-length
 same-length c = search needs
 
--- src/lib.rt:49:1
 returns : tie.Need-returns
-returns c = 
+returns c =
     let a = c .before .before .before .before .before .before .before .before .before .before .before .before .args in
     let p = c .before .before .before .before .before .before .before .before .before .before .before .before .pre in
-    let sites = c .before .before .before .before .before .before .before .planned .ensures .0 .1 in
-    (total-found (a .n) (a .m) (a .scores .now) (a .rows .now) (p .0 .0) (c .before .before .before .before .before .before .before .planned .result) (c .before .before .before .before .before .before .before .planned .ensures .1) (a .sites .now) sites _ (c .total-of .ensures),
-    served (a .n) (a .m) (a .scores .now) (a .rows .now) (p .0 .0) (c .before .before .before .before .before .before .before .planned .result) (c .before .before .before .before .before .before .before .planned .ensures .1) (a .sites .now) sites _ _ (p .1) (c .before .before .before .serve .ensures))
+    let sites = c .before .before .before .before .before .before .before .planned .ensures .0 .1 in (
+      total-found (a .n) (a .m) (a .scores .now) (a .rows .now) (p .0 .0) (c .before .before .before .before .before .before .before .planned .result) (c .before .before .before .before .before .before .before .planned .ensures .1) (a .sites .now) sites _ (c .total-of .ensures),
+      served (a .n) (a .m) (a .scores .now) (a .rows .now) (p .0 .0) (c .before .before .before .before .before .before .before .planned .result) (c .before .before .before .before .before .before .before .planned .ensures .1) (a .sites .now) sites _ _ (p .1) (c .before .before .before .serve .ensures),
+    )
 
 pub divide-spec : {M : Type 1} → statement M
 divide-spec =

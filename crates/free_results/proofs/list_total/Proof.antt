@@ -1,3 +1,4 @@
+-- `free_results::list_total` meets its contract. Assumes nothing.
 use borrow.Author.Needs.{needs}
 use mathlib.Core.Path.{_≡_, refl, sym, ap, _∙_}
 use Prim.Native.Nat.{ℕ, _≤_}
@@ -7,28 +8,21 @@ use lib.Seq.{length-take-le}
 use Rattle.free_results.proofs.Results.{total-ready, total-found}
 use Rattle.free_results.proofs.list_total.Statement.{statement}
 use Rattle.free_results.proofs.list_total.Tie as tie
-use Rattle.free_results.proofs.list_total.Reads as reads
-use Rattle.free_results.proofs.list_total.Lts as lts
-use Rattle.free_results.proofs.planned.Reads as planned-reads
-use Rattle.free_results.proofs.total_of.Reads as total-of-reads
 
--- src/lib.rt:45:14
 planned-requires : tie.Need-planned-requires
-planned-requires c κs = 
+planned-requires c κs =
     let a = c .before .before .before .args in
     let p = c .before .before .before .pre in
     (p .0, (omega (arith, p .1), p .2))
 
--- src/lib.rt:45:5
 total-of-requires : tie.Need-total-of-requires
-total-of-requires c κs = 
+total-of-requires c κs =
     let a = c .before .before .before .before .args in
     let p = c .before .before .before .before .pre in
     total-ready (a .n) (a .m) (a .scores .now) (a .rows .now) (p .0) (c .planned .result) (c .planned .ensures .1)
 
--- src/lib.rt:41:1
 returns : tie.Need-returns
-returns c = 
+returns c =
     let a = c .before .before .before .before .before .args in
     let p = c .before .before .before .before .before .pre in
     total-found (a .n) (a .m) (a .scores .now) (a .rows .now) (p .0) (c .before .planned .result) (c .before .planned .ensures .1) (a .sites .now) (c .before .planned .ensures .0 .1) _ (c .total-of .ensures)

@@ -1,3 +1,4 @@
+-- `free_results::plan` meets its contract. Assumes nothing.
 use borrow.Author.Needs.{needs}
 use mathlib.Core.Path.{_≡_, refl, sym, ap, _∙_}
 use Prim.Native.Nat.{ℕ, _≤_}
@@ -7,84 +8,69 @@ use lib.Seq.{length-take-le}
 use Rattle.free_results.proofs.Results.{total-ready, total-found, serve-ready, served, copied}
 use Rattle.free_results.proofs.plan.Statement.{statement}
 use Rattle.free_results.proofs.plan.Tie as tie
-use Rattle.free_results.proofs.plan.Reads as reads
-use Rattle.free_results.proofs.plan.Lts as lts
-use Rattle.free_results.proofs.planned.Reads as planned-reads
-use Rattle.free_results.proofs.serve.copy.Reads as copy-reads
-use Rattle.free_results.proofs.serve.serve.Reads as serve-reads
-use Rattle.free_results.proofs.total_of.Reads as total-of-reads
 
--- src/lib.rt:85:45
 array-share-prefix-none : tie.Need-array-share-prefix-none
 array-share-prefix-none c = search needs
 
--- src/lib.rt:85:45
 slice-aggregate-planned : tie.Need-slice-aggregate-planned
 slice-aggregate-planned c = search needs
 
--- src/lib.rt:85:9
 planned-requires : tie.Need-planned-requires
-planned-requires c κs = 
+planned-requires c κs =
     let a = c .before .before .before .before .before .args in
     let p = c .before .before .before .before .before .pre in
     (p .0 .0, (omega (arith, p .0 .1), λ i. omega arith))
 
--- src/lib.rt:88:27
 slice-aggregate-serve : tie.Need-slice-aggregate-serve
 slice-aggregate-serve c = search needs
 
--- src/lib.rt:88:5
 serve-requires : tie.Need-serve-requires
-serve-requires c κs = 
+serve-requires c κs =
     let a = c .before .before .before .before .before .before .before .before .before .before .args in
     let p = c .before .before .before .before .before .before .before .before .before .before .pre in
     serve-ready (a .n) (a .m) (a .scores .now) (a .rows .now) (p .0 .0) (c .before .before .before .before .planned .result) (c .before .before .before .before .planned .ensures .1) _ (p .1)
 
--- src/lib.rt:89:17
 array-share-prefix-sites : tie.Need-array-share-prefix-sites
 array-share-prefix-sites c = search needs
 
--- src/lib.rt:89:17
 slice-aggregate-copy : tie.Need-slice-aggregate-copy
-slice-aggregate-copy c = 
+slice-aggregate-copy c =
     let a = c .before .before .before .before .before .before .before .before .before .before .before .before .before .before .args in
     let p = c .before .before .before .before .before .before .before .before .before .before .before .before .before .before .pre in
     let held = c .before .before .before .before .before .before .before .before .planned .ensures .1 in
     sym (length-take-le (length (a .chosen .now)) (c .before .before .before .before .before .before .before .before .planned .result .chosen) (omega (arith, held .chosen-size, p .0 .1, p .0 .0 .few-sites)))
 
--- src/lib.rt:89:5
 copy-requires : tie.Need-copy-requires
-copy-requires c κs = 
+copy-requires c κs =
     let a = c .before .before .before .before .before .before .before .before .before .before .before .before .before .before .before .args in
     let p = c .before .before .before .before .before .before .before .before .before .before .before .before .before .before .before .pre in
     let held = c .before .before .before .before .before .before .before .before .before .planned .ensures .1 in
     length-take-le (length (a .chosen .now)) (c .before .before .before .before .before .before .before .before .before .planned .result .chosen) (omega (arith, held .chosen-size, p .0 .1, p .0 .0 .few-sites))
 
--- src/lib.rt:90:5
 total-of-requires : tie.Need-total-of-requires
-total-of-requires c κs = 
+total-of-requires c κs =
     let a = c .before .before .before .before .before .before .before .before .before .before .before .before .before .before .before .before .before .before .args in
     let p = c .before .before .before .before .before .before .before .before .before .before .before .before .before .before .before .before .before .before .pre in
     total-ready (a .n) (a .m) (a .scores .now) (a .rows .now) (p .0 .0) (c .before .before .before .before .before .before .before .before .before .before .before .before .planned .result) (c .before .before .before .before .before .before .before .before .before .before .before .before .planned .ensures .1)
 
--- src/lib.rt:69:1
 same-length : tie.Need-same-length
 same-length c = search needs
 
--- src/lib.rt:69:1
 same-length-2 : tie.Need-same-length-2
 same-length-2 c = search needs
 
--- src/lib.rt:69:1
 returns : tie.Need-returns
-returns c = 
+returns c =
     let a = c .before .before .before .before .before .before .before .before .before .before .before .before .before .before .before .before .before .before .before .args in
     let p = c .before .before .before .before .before .before .before .before .before .before .before .before .before .before .before .before .before .before .before .pre in
     let t = c .before .before .before .before .before .before .before .before .before .before .before .before .before .planned .ensures in
-    let k : ℕ = length (a .chosen .now) in
-    (total-found (a .n) (a .m) (a .scores .now) (a .rows .now) (p .0 .0) (c .before .before .before .before .before .before .before .before .before .before .before .before .before .planned .result) (c .before .before .before .before .before .before .before .before .before .before .before .before .before .planned .ensures .1) _ (t .0 .1) _ (c .total-of .ensures),
-    (served (a .n) (a .m) (a .scores .now) (a .rows .now) (p .0 .0) (c .before .before .before .before .before .before .before .before .before .before .before .before .before .planned .result) (c .before .before .before .before .before .before .before .before .before .before .before .before .before .planned .ensures .1) _ (t .0 .1) _ _ (p .1) (c .before .before .before .before .before .before .before .before .serve .ensures),
-    copied (a .n) (a .m) (a .scores .now) (a .rows .now) (p .0 .0) (c .before .before .before .before .before .before .before .before .before .before .before .before .before .planned .result) (c .before .before .before .before .before .before .before .before .before .before .before .before .before .planned .ensures .1) _ (t .0 .1) k _ (omega (arith, t .0 .0)) (c .before .before .before .copy .ensures)))
+    let k : ℕ = length (a .chosen .now) in (
+      total-found (a .n) (a .m) (a .scores .now) (a .rows .now) (p .0 .0) (c .before .before .before .before .before .before .before .before .before .before .before .before .before .planned .result) (c .before .before .before .before .before .before .before .before .before .before .before .before .before .planned .ensures .1) _ (t .0 .1) _ (c .total-of .ensures),
+      (
+        served (a .n) (a .m) (a .scores .now) (a .rows .now) (p .0 .0) (c .before .before .before .before .before .before .before .before .before .before .before .before .before .planned .result) (c .before .before .before .before .before .before .before .before .before .before .before .before .before .planned .ensures .1) _ (t .0 .1) _ _ (p .1) (c .before .before .before .before .before .before .before .before .serve .ensures),
+        copied (a .n) (a .m) (a .scores .now) (a .rows .now) (p .0 .0) (c .before .before .before .before .before .before .before .before .before .before .before .before .before .planned .result) (c .before .before .before .before .before .before .before .before .before .before .before .before .before .planned .ensures .1) _ (t .0 .1) k _ (omega (arith, t .0 .0)) (c .before .before .before .copy .ensures),
+      ),
+    )
 
 pub plan-spec : {M : Type 1} → statement M
 plan-spec =

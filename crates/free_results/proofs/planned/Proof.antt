@@ -1,3 +1,4 @@
+-- `free_results::planned` meets its contract. Assumes nothing.
 use borrow.Author.Needs.{needs}
 use mathlib.Core.Path.{_≡_, refl, sym, ap, _∙_}
 use Prim.Native.Nat.{ℕ, _≤_}
@@ -8,69 +9,57 @@ use Rattle.free_results.proofs.Tabled.{table-fits, table-blank, table-r
 use Rattle.free_results.proofs.Results.{at-most-list}
 use Rattle.free_results.proofs.planned.Statement.{statement}
 use Rattle.free_results.proofs.planned.Tie as tie
-use Rattle.free_results.proofs.planned.Reads as reads
-use Rattle.free_results.proofs.planned.Lts as lts
-use Rattle.free_rounds.proofs.rounds.Reads as rounds-reads
-use Rattle.values.proofs.fill_values.Reads as fill-values-reads
 
--- src/lib.rt:25:21
 add-size : tie.Need-add-size
 add-size c = search needs
 
--- src/lib.rt:25:16
 mul-size : tie.Need-mul-size
 mul-size c = search needs
 
--- src/lib.rt:27:45
 array-borrow-prefix-table : tie.Need-array-borrow-prefix-table
-array-borrow-prefix-table c = 
+array-borrow-prefix-table c =
     let a = c .before .before .before .args in
     let p = c .before .before .before .pre in
     omega (arith, table-fits (a .n) (a .m) (a .scores .now) (a .rows .now) (p .0))
 
--- src/lib.rt:27:45
 slice-aggregate-fill-values : tie.Need-slice-aggregate-fill-values
-slice-aggregate-fill-values c = 
+slice-aggregate-fill-values c =
     let a = c .before .before .before .before .args in
     let p = c .before .before .before .before .pre in
     sym (table-blank (a .n) (a .m) (a .scores .now) (a .rows .now) (p .0) .size)
 
--- src/lib.rt:27:5
 fill-values-requires : tie.Need-fill-values-requires
-fill-values-requires c κs = 
+fill-values-requires c κs =
     let a = c .before .before .before .before .args in
     let p = c .before .before .before .before .pre in
     (p .0, table-blank (a .n) (a .m) (a .scores .now) (a .rows .now) (p .0))
 
--- src/lib.rt:28:25
 array-share-prefix-table : tie.Need-array-share-prefix-table
-array-share-prefix-table c = 
+array-share-prefix-table c =
     let a = c .before .before .before .before .before .before .args in
     let p = c .before .before .before .before .before .before .pre in
     table-room (a .n) (a .m) (a .scores .now) (a .rows .now) (p .0) _ _ (c .before .fill-values .ensures)
 
--- src/lib.rt:28:25
 slice-aggregate-rounds : tie.Need-slice-aggregate-rounds
-slice-aggregate-rounds c = 
+slice-aggregate-rounds c =
     let a = c .before .before .before .before .before .before .before .args in
     let p = c .before .before .before .before .before .before .before .pre in
     table-size (a .n) (a .m) (a .scores .now) (a .rows .now) (p .0) _ _ (c .before .before .fill-values .ensures)
 
--- src/lib.rt:28:5
 rounds-requires : tie.Need-rounds-requires
-rounds-requires c κs = 
+rounds-requires c κs =
     let a = c .before .before .before .before .before .before .before .args in
     let p = c .before .before .before .before .before .before .before .pre in
     (table-ready (a .n) (a .m) (a .scores .now) (a .rows .now) (p .0) _ _ (c .before .before .fill-values .ensures), (p .1 .0, p .1 .1))
 
--- src/lib.rt:19:1
 returns : tie.Need-returns
-returns c = 
+returns c =
     let a = c .before .before .before .before .before .before .before .before .args in
     let p = c .before .before .before .before .before .before .before .before .pre in
-    let t = c .rounds .ensures in
-    ((t .0 .0, sites-planned (a .n) (a .m) (a .scores .now) (a .rows .now) (p .0) _ _ (c .before .before .before .fill-values .ensures) (a .k) (a .sites .now) (at-most-list (a .m) (a .sites .now) (p .1 .1)) (c .rounds .result) (t .0 .1)),
-    held-planned (a .n) (a .m) (a .scores .now) (a .rows .now) (p .0) _ _ (c .before .before .before .fill-values .ensures) (a .k) (a .sites .now) (at-most-list (a .m) (a .sites .now) (p .1 .1)) (c .rounds .result) (t .0 .1) (t .1))
+    let t = c .rounds .ensures in (
+      (t .0 .0, sites-planned (a .n) (a .m) (a .scores .now) (a .rows .now) (p .0) _ _ (c .before .before .before .fill-values .ensures) (a .k) (a .sites .now) (at-most-list (a .m) (a .sites .now) (p .1 .1)) (c .rounds .result) (t .0 .1)),
+      held-planned (a .n) (a .m) (a .scores .now) (a .rows .now) (p .0) _ _ (c .before .before .before .fill-values .ensures) (a .k) (a .sites .now) (at-most-list (a .m) (a .sites .now) (p .1 .1)) (c .rounds .result) (t .0 .1) (t .1),
+    )
 
 pub planned-spec : {M : Type 1} → statement M
 planned-spec =

@@ -1,3 +1,4 @@
+-- `free_results::total_of` meets its contract. Assumes nothing.
 use borrow.Author.Needs.{needs}
 use mathlib.Core.Path.{_≡_, refl, sym, ap, _∙_}
 use Prim.Native.Nat.{ℕ, _≤_}
@@ -8,33 +9,26 @@ use Rattle.counting.specs.Words.{sumOf}
 use Rattle.counting.specs.Lists.{at}
 use Rattle.free_results.proofs.total_of.Statement.{statement}
 use Rattle.free_results.proofs.total_of.Tie as tie
-use Rattle.free_results.proofs.total_of.Reads as reads
-use Rattle.free_results.proofs.total_of.Lts as lts
-use Rattle.free_rounds.proofs.sums.sum.Reads as sum-reads
 
--- src/lib.rt:48:28
 array-share-prefix-bests : tie.Need-array-share-prefix-bests
 array-share-prefix-bests c = search needs
 
--- src/lib.rt:48:28
 slice-aggregate-sum : tie.Need-slice-aggregate-sum
-slice-aggregate-sum c = 
+slice-aggregate-sum c =
     let a = c .before .before .args in
     let p = c .before .before .pre in
     let whole = length-take-le (a .n) (a .state .bests) (omega (arith, p .0, p .1)) in
     sym whole
 
--- src/lib.rt:48:5
 sum-requires : tie.Need-sum-requires
-sum-requires c κs = 
+sum-requires c κs =
     let a = c .before .before .args in
     let p = c .before .before .pre in
     let whole = length-take-le (a .n) (a .state .bests) (omega (arith, p .0, p .1)) in
     (p .2, omega (arith, whole, p .1))
 
--- src/lib.rt:43:1
 returns : tie.Need-returns
-returns c = 
+returns c =
     let a = c .before .before .before .args in
     let p = c .before .before .before .pre in
     let whole = length-take-le (a .n) (a .state .bests) (omega (arith, p .0, p .1)) in

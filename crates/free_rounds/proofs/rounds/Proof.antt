@@ -1,3 +1,4 @@
+-- `free_rounds::rounds` meets its contract. Assumes nothing.
 use borrow.Author.Needs.{needs}
 use mathlib.Core.Path.{_≡_, refl, sym, ap, _∙_}
 use mathlib.Core.List.{List, [], _∷_, _++_}
@@ -10,51 +11,43 @@ use Rattle.free_plan.proofs.Sites.{greedy-next}
 use Rattle.free_rounds.specs.Held.{Held, sitesOf}
 use Rattle.free_rounds.proofs.rounds.Statement.{statement}
 use Rattle.free_rounds.proofs.rounds.Tie as tie
-use Rattle.free_rounds.proofs.rounds.Reads as reads
-use Rattle.free_rounds.proofs.rounds.Lts as lts
-use Rattle.free_rounds.proofs.State.round.Reads as round-reads
-use Rattle.free_rounds.proofs.taken.Reads as taken-reads
 
 abbrev Inv-loop : tie.InvT-loop
-Inv-loop values n m sites k state₀ i₀ state i = 
+Inv-loop values n m sites k state₀ i₀ state i =
     (i ≤ k) × (state .count ≡ length sites + i) × (sitesOf state ≡ greedy (valueIn values m) n m i sites) × Held (valueIn values m) n state
 
 abbrev μ-loop : tie.MeasureT-loop
 μ-loop values n m sites k state₀ i₀ state i = k - i
 
--- src/lib.rt:91:9
 taken-requires : tie.Need-taken-requires Inv-loop μ-loop
 taken-requires c κs = let p = c .before .before .pre in (p .0, (omega (arith, p .1 .0, p .0 .few-sites), p .1 .1))
 
--- src/lib.rt:92:5
 loop-holds : tie.Need-loop-holds Inv-loop μ-loop
 loop-holds c = let t = c .taken .ensures in (omega arith, omega (arith, t .0 .0), t .0 .1, t .1)
 
--- src/lib.rt:93:9
 round-requires : tie.Need-round-requires Inv-loop μ-loop
 round-requires c κs = let l = c .before .loop in let p = c .before .before .before .before .before .pre in (p .0, (l .inv .3, omega (arith, l .inv .1, p .1 .0)))
 
--- src/lib.rt:92:9
 add-i : tie.Need-add-i Inv-loop μ-loop
 add-i c = search needs
 
--- src/lib.rt:92:5
 loop-less : tie.Need-loop-less Inv-loop μ-loop
 loop-less c = search needs
 
--- src/lib.rt:92:5
 loop-again : tie.Need-loop-again Inv-loop μ-loop
-loop-again c = 
+loop-again c =
     let a = c .before .before .before .before .before .before .args in
     let l = c .before .before .loop in
     let t = c .round .ensures in
-    let v = valueIn (a .values .now) (a .m) in
-    (omega arith, omega (arith, t .0 .0, l .inv .1),
-    t .0 .1 ∙ ap (λ (S : List ℕ). S ++ (pick v (a .n) (a .m) S ∷ [])) (l .inv .2) ∙ sym (greedy-next v (a .n) (a .m) (l .i) (a .sites .now)), t .1)
+    let v = valueIn (a .values .now) (a .m) in (
+      omega arith,
+      omega (arith, t .0 .0, l .inv .1),
+      t .0 .1 ∙ ap (λ (S : List ℕ). S ++ (pick v (a .n) (a .m) S ∷ [])) (l .inv .2) ∙ sym (greedy-next v (a .n) (a .m) (l .i) (a .sites .now)),
+      t .1,
+    )
 
--- src/lib.rt:85:1
 returns : tie.Need-returns Inv-loop μ-loop
-returns c = 
+returns c =
     let a = c .before .before .before .before .before .args in
     let l = c .before .loop in
     let e : l .i ≡ a .k = omega arith in

@@ -1,3 +1,4 @@
+-- `free_rounds::taken` meets its contract. Assumes nothing.
 use borrow.Author.Needs.{needs}
 use mathlib.Core.Path.{_≡_, refl, sym, ap, _∙_}
 use mathlib.Core.List.{List, _∷_, [], _++_}
@@ -10,10 +11,6 @@ use Rattle.free_rounds.proofs.Rounded.{start-holds, take-next}
 use lib.Seq.{take-all}
 use Rattle.free_rounds.proofs.taken.Statement.{statement}
 use Rattle.free_rounds.proofs.taken.Tie as tie
-use Rattle.free_rounds.proofs.taken.Reads as reads
-use Rattle.free_rounds.proofs.taken.Lts as lts
-use Rattle.free_rounds.proofs.State.empty.Reads as empty-reads
-use Rattle.free_rounds.proofs.State.taking.Reads as taking-reads
 
 abbrev Inv-loop : tie.InvT-loop
 Inv-loop values n m sites state₀ i₀ i-end state i =
@@ -22,34 +19,27 @@ Inv-loop values n m sites state₀ i₀ i-end state i =
 abbrev μ-loop : tie.MeasureT-loop
 μ-loop values n m sites state₀ i₀ i-end state i = i-end - i
 
--- src/lib.rt:91:9
 empty-requires : tie.Need-empty-requires Inv-loop μ-loop
 empty-requires c κs = search needs
 
--- src/lib.rt:92:5
 loop-holds : tie.Need-loop-holds Inv-loop μ-loop
 loop-holds c = let t = start-holds _ _ _ (c .empty .ensures) in (omega arith, refl, t .0, t .1, t .2)
 
--- src/lib.rt:93:44
 shared-slice-read-taking : tie.Need-shared-slice-read-taking Inv-loop μ-loop
 shared-slice-read-taking c = search needs
 
--- src/lib.rt:93:9
 taking-requires : tie.Need-taking-requires Inv-loop μ-loop
 taking-requires c κs =
     let l = c .before .before .loop in
     let p = c .before .before .before .before .before .before .pre in
     (p .0, (l .inv .4, (p .1 .1 (l .i), omega (arith, l .inv .2, p .1 .0))))
 
--- src/lib.rt:92:9
 add-i : tie.Need-add-i Inv-loop μ-loop
 add-i c = search needs
 
--- src/lib.rt:92:5
 loop-less : tie.Need-loop-less Inv-loop μ-loop
 loop-less c = search needs
 
--- src/lib.rt:92:5
 loop-again : tie.Need-loop-again Inv-loop μ-loop
 loop-again c =
     let sites = c .before .before .before .before .before .before .before .args .sites .now in
@@ -62,7 +52,6 @@ loop-again c =
       t .1,
     )
 
--- src/lib.rt:85:1
 returns : tie.Need-returns Inv-loop μ-loop
 returns c =
     let sites = c .before .before .before .before .before .args .sites .now in

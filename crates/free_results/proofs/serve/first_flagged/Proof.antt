@@ -1,3 +1,4 @@
+-- `free_results::serve::first_flagged` meets its contract. Assumes nothing.
 use borrow.Author.Needs.{needs}
 use mathlib.Core.Path.{_≡_, refl}
 use Prim.Native.Nat.{_≤_, _-_}
@@ -9,9 +10,6 @@ use Rattle.counting.proofs.Refusals.{loop, first-next}
 use Rattle.free_plan.specs.Greedy.{chosenAt}
 use Rattle.free_results.proofs.serve.first_flagged.Statement.{statement}
 use Rattle.free_results.proofs.serve.first_flagged.Tie as tie
-use Rattle.free_results.proofs.serve.first_flagged.Reads as reads
-use Rattle.free_results.proofs.serve.first_flagged.Lts as lts
-use Rattle.free_results.proofs.serve.kept.Reads as kept-reads
 
 abbrev Inv-loop : tie.InvT-loop
 Inv-loop list marks j₀ j-end j = (j ≤ j-end) × (j-end ≡ length list) × (firstOf j (chosenAt (λ a. getD marks a false) list) ≡ 0)
@@ -19,43 +17,33 @@ Inv-loop list marks j₀ j-end j = (j ≤ j-end) × (j-end ≡ length list) × (
 abbrev μ-loop : tie.MeasureT-loop
 μ-loop list marks j₀ j-end j = j-end - j
 
--- src/serve.rt:23:5
 loop-holds : tie.Need-loop-holds Inv-loop μ-loop
 loop-holds c = search loop
 
--- src/serve.rt:24:20
 shared-slice-read-site : tie.Need-shared-slice-read-site Inv-loop μ-loop
 shared-slice-read-site c = search needs
 
--- src/serve.rt:25:20
 cast-flag : tie.Need-cast-flag Inv-loop μ-loop
 cast-flag c = omega (arith, c .shared-slice-known3 .given (c .before .before .loop .j))
 
--- src/serve.rt:26:28
 shared-slice-read-kept : tie.Need-shared-slice-read-kept Inv-loop μ-loop
 shared-slice-read-kept c = omega (arith, c .before .shared-slice-known3 .given (c .before .before .before .loop .j))
 
--- src/serve.rt:26:13
 kept-requires : tie.Need-kept-requires Inv-loop μ-loop
 kept-requires c κs = search needs
 
--- src/serve.rt:28:13
 returns : tie.Need-returns Inv-loop μ-loop
 returns c = search loop
 
--- src/serve.rt:23:9
 add-j : tie.Need-add-j Inv-loop μ-loop
 add-j c = search needs
 
--- src/serve.rt:23:5
 loop-less : tie.Need-loop-less Inv-loop μ-loop
 loop-less c = search needs
 
--- src/serve.rt:23:5
 loop-again : tie.Need-loop-again Inv-loop μ-loop
 loop-again c = let l = c .before .before .before .before .before .loop in (omega arith, refl, first-next (l .j) _ _ (l .inv .2) (c .before .kept .ensures) (c .if1 .left))
 
--- src/serve.rt:19:1
 returns-2 : tie.Need-returns-2 Inv-loop μ-loop
 returns-2 c = search loop
 

@@ -1,15 +1,12 @@
+-- `free_results::serve::kept` meets its contract. Assumes nothing.
 use borrow.Author.Needs.{needs}
 use Rattle.counting.proofs.Refusals.{chain}
 use Rattle.free_results.proofs.serve.kept.Statement.{statement}
 use Rattle.free_results.proofs.serve.kept.Tie as tie
-use Rattle.free_results.proofs.serve.kept.Reads as reads
-use Rattle.free_results.proofs.serve.kept.Lts as lts
 
--- src/serve.rt:12:1
 returns : tie.Need-returns
 returns c = search chain
 
--- src/serve.rt:12:1
 returns-2 : tie.Need-returns-2
 returns-2 c = search chain
 

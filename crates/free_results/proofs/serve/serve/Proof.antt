@@ -1,3 +1,4 @@
+-- `free_results::serve::serve` meets its contract. Assumes nothing.
 use borrow.Author.Needs.{needs}
 use mathlib.Core.Path.{_≡_, refl, sym, ap, _∙_}
 use mathlib.Core.List.{List}
@@ -12,9 +13,6 @@ use Rattle.survey.proofs.Laws.{row-within}
 use Rattle.free_plan.specs.Greedy.{goesTo}
 use Rattle.free_results.proofs.serve.serve.Statement.{statement}
 use Rattle.free_results.proofs.serve.serve.Tie as tie
-use Rattle.free_results.proofs.serve.serve.Reads as reads
-use Rattle.free_results.proofs.serve.serve.Lts as lts
-use Rattle.free_results.proofs.serve.street.Reads as street-reads
 
 abbrev Inv-loop : tie.InvT-loop
 Inv-loop rows m marks division₀ s₀ s-end division s =
@@ -24,38 +22,30 @@ Inv-loop rows m marks division₀ s₀ s-end division s =
 abbrev μ-loop : tie.MeasureT-loop
 μ-loop rows m marks division₀ s₀ s-end division s = s-end - s
 
--- src/serve.rt:49:5
 loop-holds : tie.Need-loop-holds Inv-loop μ-loop
 loop-holds c = (search needs, refl, mapped-none _ _)
 
--- src/serve.rt:50:23
 street-requires : tie.Need-street-requires Inv-loop μ-loop
 street-requires c κs =
     let a = c .before .before .before .before .before .args in
     let p = c .before .before .before .before .before .pre in
     (omega (arith, row-within (length (a .division .now)) (a .m) (c .before .loop .s) (omega arith), p .0), p .1)
 
--- src/serve.rt:50:9
 slice-write-division : tie.Need-slice-write-division Inv-loop μ-loop
 slice-write-division c = search needs
 
--- src/serve.rt:49:9
 add-s : tie.Need-add-s Inv-loop μ-loop
 add-s c = search needs
 
--- src/serve.rt:49:5
 loop-less : tie.Need-loop-less Inv-loop μ-loop
 loop-less c = search needs
 
--- src/serve.rt:49:5
 loop-again : tie.Need-loop-again Inv-loop μ-loop
 loop-again c = let l = c .before .before .loop in (omega arith, refl, mapped-more _ _ (l .division) (l .s) _ (omega arith) (l .inv .2) (c .street .ensures))
 
--- src/serve.rt:45:1
 same-length : tie.Need-same-length Inv-loop μ-loop
 same-length c = let l = c .before .loop in l .inv .2 .size
 
--- src/serve.rt:45:1
 returns : tie.Need-returns Inv-loop μ-loop
 returns c = let l = c .before .loop in mapped-listOf _ _ _ _ refl (mapped-end _ _ _ (l .s) _ (omega arith) (omega arith) (l .inv .2))
 

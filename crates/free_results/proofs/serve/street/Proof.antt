@@ -1,3 +1,4 @@
+-- `free_results::serve::street` meets its contract. Assumes nothing.
 use borrow.Author.Needs.{needs}
 use mathlib.Core.Path.{_≡_, refl, sym, ap, _∙_}
 use mathlib.Core.List.{List}
@@ -10,40 +11,28 @@ use Rattle.survey.proofs.Laws.{row-part}
 use Rattle.free_plan.specs.Greedy.{goesTo}
 use Rattle.free_results.proofs.serve.street.Statement.{statement}
 use Rattle.free_results.proofs.serve.street.Tie as tie
-use Rattle.free_results.proofs.serve.street.Reads as reads
-use Rattle.free_results.proofs.serve.street.Lts as lts
-use Rattle.free_results.proofs.serve.first_flagged.Reads as first-flagged-reads
-use Rattle.survey.proofs.rows.ranked.Reads as ranked-reads
 
--- src/serve.rt:39:16
 mul-from : tie.Need-mul-from
 mul-from c = search needs
 
--- src/serve.rt:40:14
 add-to : tie.Need-add-to
 add-to c = search needs
 
--- src/serve.rt:41:40
 sub-ranked : tie.Need-sub-ranked
 sub-ranked c = search needs
 
--- src/serve.rt:41:40
 part-ranked-start : tie.Need-part-ranked-start
 part-ranked-start c = search needs
 
--- src/serve.rt:41:40
 part-ranked-end : tie.Need-part-ranked-end
 part-ranked-end c = search needs
 
--- src/serve.rt:41:19
 ranked-requires : tie.Need-ranked-requires
 ranked-requires c κs = search needs
 
--- src/serve.rt:41:5
 first-flagged-requires : tie.Need-first-flagged-requires
 first-flagged-requires c κs = search needs
 
--- src/serve.rt:35:1
 returns : tie.Need-returns
 returns c =
     let a = c .before .before .before .before .before .args in

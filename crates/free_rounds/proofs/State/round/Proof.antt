@@ -1,3 +1,4 @@
+-- `free_rounds::State::round` meets its contract. Assumes nothing.
 use borrow.Author.Needs.{needs}
 use mathlib.Core.Path.{_≡_, refl, sym, ap, _∙_}
 use mathlib.Core.List.{List, [], _∷_, _++_}
@@ -11,16 +12,10 @@ use Rattle.free_rounds.specs.Held.{sitesOf}
 use Rattle.free_rounds.proofs.Rounded.{table-same, bests-small, choice-is}
 use Rattle.free_rounds.proofs.State.round.Statement.{statement}
 use Rattle.free_rounds.proofs.State.round.Tie as tie
-use Rattle.free_rounds.proofs.State.round.Reads as reads
-use Rattle.free_rounds.proofs.State.round.Lts as lts
-use Rattle.free_rounds.proofs.State.taking.Reads as taking-reads
-use Rattle.free_rounds.proofs.pick.choose.Reads as choose-reads
 
--- src/lib.rt:65:41
 array-share-prefix-bests : tie.Need-array-share-prefix-bests
 array-share-prefix-bests c = search needs
 
--- src/lib.rt:65:41
 slice-aggregate-choose : tie.Need-slice-aggregate-choose
 slice-aggregate-choose c =
     let a = c .before .before .before .before .args in
@@ -28,11 +23,9 @@ slice-aggregate-choose c =
     let whole = length-take-le (a .n) (a .self .bests) (omega (arith, p .0 .few-streets, p .1 .0 .bests-size)) in
     sym whole
 
--- src/lib.rt:65:57
 slice-aggregate-choose-2 : tie.Need-slice-aggregate-choose-2
 slice-aggregate-choose-2 c = search needs
 
--- src/lib.rt:65:13
 choose-requires : tie.Need-choose-requires
 choose-requires c κs =
     let a = c .before .before .before .before .before .args in
@@ -40,7 +33,6 @@ choose-requires c κs =
     let whole = length-take-le (a .n) (a .self .bests) (omega (arith, p .0 .few-streets, p .1 .0 .bests-size)) in
     (table-same _ (a .n) (a .m) _ whole (p .0), bests-small _ (a .n) (a .self) (p .1 .0) (λ s x. p .0 .small _), p .1 .0 .marks .size)
 
--- src/lib.rt:66:42
 cast-taking : tie.Need-cast-taking
 cast-taking c =
     let a = c .before .before .before .before .before .before .args in
@@ -48,7 +40,6 @@ cast-taking c =
     let low : c .choose .result ≤ a .m = chosen-le _ _ (a .m) _ (c .choose .ensures) in
     omega (arith, p .0 .few-sites)
 
--- src/lib.rt:66:9
 taking-requires : tie.Need-taking-requires
 taking-requires c κs =
     let a = c .before .before .before .before .before .before .args in
@@ -56,7 +47,6 @@ taking-requires c κs =
     let low : c .choose .result ≤ a .m = chosen-le _ _ (a .m) _ (c .choose .ensures) in
     (p .0, (p .1 .0, (low, omega (arith, p .0 .few-sites, p .1 .1))))
 
--- src/lib.rt:56:5
 returns : tie.Need-returns
 returns c =
     let a = c .before .before .before .before .before .before .before .args in

@@ -1,3 +1,4 @@
+-- `free_rounds::State::taking` meets its contract. Assumes nothing.
 use borrow.Author.Needs.{needs}
 use mathlib.Core.Path.{_≡_, refl, sym, ap, _∙_}
 use mathlib.Core.List.{List, _++_}
@@ -9,34 +10,25 @@ use Rattle.values.specs.Table.{valueIn}
 use lib.Seq.{length-take-le}
 use Rattle.free_rounds.proofs.State.taking.Statement.{statement}
 use Rattle.free_rounds.proofs.State.taking.Tie as tie
-use Rattle.free_rounds.proofs.State.taking.Reads as reads
-use Rattle.free_rounds.proofs.State.taking.Lts as lts
-use Rattle.free_rounds.proofs.sums.raise.Reads as raise-reads
 
--- src/lib.rt:46:9
 element-write-self : tie.Need-element-write-self
 element-write-self c = search needs
 
--- src/lib.rt:47:22
 add-self : tie.Need-add-self
 add-self c = search needs
 
--- src/lib.rt:48:9
 element-write-self-2 : tie.Need-element-write-self-2
 element-write-self-2 c = search needs
 
--- src/lib.rt:50:21
 array-borrow-prefix-bests : tie.Need-array-borrow-prefix-bests
 array-borrow-prefix-bests c = search needs
 
--- src/lib.rt:50:21
 slice-aggregate-raise : tie.Need-slice-aggregate-raise
 slice-aggregate-raise c =
     let a = c .before .before .before .args in
     let p = c .before .before .before .pre in
     sym (length-take-le (a .n) (a .t1 .bests) (omega (arith, p .0 .few-streets, p .1 .0 .bests-size)))
 
--- src/lib.rt:50:9
 raise-requires : tie.Need-raise-requires
 raise-requires c κs =
     let a = c .before .before .before .args in
@@ -44,7 +36,6 @@ raise-requires c κs =
     let whole = length-take-le (a .n) (a .t1 .bests) (omega (arith, p .0 .few-streets, p .1 .0 .bests-size)) in
     (table-same _ (a .n) (a .m) _ whole (p .0), p .1 .1 .0)
 
--- src/lib.rt:37:5
 returns : tie.Need-returns
 returns c =
     let a = c .before .before .before .before .before .args in

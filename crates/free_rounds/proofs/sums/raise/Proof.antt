@@ -1,3 +1,4 @@
+-- `free_rounds::sums::raise` meets its contract. Assumes nothing.
 use borrow.Author.Needs.{needs}
 use mathlib.Core.Path.{_≡_, refl, ap, _∙_}
 use Prim.Native.Nat.{ℕ, _≤_, _-_, max}
@@ -10,10 +11,6 @@ use Rattle.free_rounds.proofs.Turns.{in-rows}
 use Rattle.values.specs.Table.{valueIn}
 use Rattle.free_rounds.proofs.sums.raise.Statement.{statement}
 use Rattle.free_rounds.proofs.sums.raise.Tie as tie
-use Rattle.free_rounds.proofs.sums.raise.Reads as reads
-use Rattle.free_rounds.proofs.sums.raise.Lts as lts
-use Rattle.free_rounds.proofs.sums.greater.Reads as greater-reads
-use Rattle.free_rounds.proofs.sums.value.Reads as value-reads
 
 abbrev Inv-loop : tie.InvT-loop
 Inv-loop bests₀ values m a s₀ s-end bests s = (s ≤ s-end) × (s-end ≡ length bests₀) × Mapped (λ t x. max x (valueIn values m t a)) bests₀ bests s
@@ -21,57 +18,45 @@ Inv-loop bests₀ values m a s₀ s-end bests s = (s ≤ s-end) × (s-end ≡ le
 abbrev μ-loop : tie.MeasureT-loop
 μ-loop bests₀ values m a s₀ s-end bests s = s-end - s
 
--- src/sums.rt:30:5
 loop-holds : tie.Need-loop-holds Inv-loop μ-loop
 loop-holds c = (search needs, refl, mapped-none _ _)
 
--- src/sums.rt:31:28
 mul-greater : tie.Need-mul-greater Inv-loop μ-loop
 mul-greater c = search needs
 
--- src/sums.rt:31:28
 slice-read-greater : tie.Need-slice-read-greater Inv-loop μ-loop
 slice-read-greater c = search needs
 
--- src/sums.rt:31:38
 value-requires : tie.Need-value-requires Inv-loop μ-loop
 value-requires c κs =
     let a = c .before .before .before .before .before .args in
     let p = c .before .before .before .before .before .pre in
     (omega (arith, in-rows (length (a .bests .now)) (a .m) (c .before .before .loop .s) (a .a) (omega arith) (p .1), p .0 .size), p .0 .few-sites)
 
--- src/sums.rt:31:20
 greater-requires : tie.Need-greater-requires Inv-loop μ-loop
 greater-requires c κs = search needs
 
--- src/sums.rt:31:9
 mul-bests : tie.Need-mul-bests Inv-loop μ-loop
 mul-bests c = search needs
 
--- src/sums.rt:31:9
 slice-write-bests : tie.Need-slice-write-bests Inv-loop μ-loop
 slice-write-bests c = search needs
 
--- src/sums.rt:30:9
 add-s : tie.Need-add-s Inv-loop μ-loop
 add-s c = search needs
 
--- src/sums.rt:30:5
 loop-less : tie.Need-loop-less Inv-loop μ-loop
 loop-less c = search needs
 
--- src/sums.rt:30:5
 loop-again : tie.Need-loop-again Inv-loop μ-loop
 loop-again c =
     let l = c .before .before .before .before .loop in
     let e = c .greater .ensures ∙ ap (λ (x : ℕ). max (at (l .bests) (l .s)) x) (c .before .value .ensures) in
     (omega arith, refl, mapped-more _ _ (l .bests) (l .s) _ (omega arith) (l .inv .2) e)
 
--- src/sums.rt:26:1
 same-length : tie.Need-same-length Inv-loop μ-loop
 same-length c = search needs
 
--- src/sums.rt:26:1
 returns : tie.Need-returns Inv-loop μ-loop
 returns c = let l = c .before .loop in mapped-end _ _ _ (l .s) _ (omega arith) (omega arith) (l .inv .2)
 

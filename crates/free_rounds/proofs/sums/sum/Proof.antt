@@ -1,3 +1,4 @@
+-- `free_rounds::sums::sum` meets its contract. Assumes nothing.
 use borrow.Author.Needs.{needs}
 use mathlib.Core.Path.{_≡_, refl, sym, ap, _∙_}
 use Prim.Native.Nat.{ℕ, _≤_, _-_, _*_, _+_}
@@ -8,8 +9,6 @@ use Rattle.counting.proofs.Sums.{sumOf-next, sum-end}
 use Rattle.counting.specs.Lists.{at}
 use Rattle.free_rounds.proofs.sums.sum.Statement.{statement}
 use Rattle.free_rounds.proofs.sums.sum.Tie as tie
-use Rattle.free_rounds.proofs.sums.sum.Reads as reads
-use Rattle.free_rounds.proofs.sums.sum.Lts as lts
 
 abbrev Inv-loop : tie.InvT-loop
 Inv-loop bests total₀ s₀ s-end total s = (s ≤ s-end) × (s-end ≡ length bests) × (total ≡ sumOf s (at bests)) × (total ≤ s * 99000)
@@ -17,38 +16,30 @@ Inv-loop bests total₀ s₀ s-end total s = (s ≤ s-end) × (s-end ≡ length 
 abbrev μ-loop : tie.MeasureT-loop
 μ-loop bests total₀ s₀ s-end total s = s-end - s
 
--- src/sums.rt:65:5
 loop-holds : tie.Need-loop-holds Inv-loop μ-loop
 loop-holds c = (search needs, refl, refl, search needs)
 
--- src/sums.rt:66:25
 mul-total : tie.Need-mul-total Inv-loop μ-loop
 mul-total c = search needs
 
--- src/sums.rt:66:25
 shared-slice-read-total : tie.Need-shared-slice-read-total Inv-loop μ-loop
 shared-slice-read-total c = search needs
 
--- src/sums.rt:66:17
 add-total : tie.Need-add-total Inv-loop μ-loop
 add-total c = let l = c .before .before .loop in omega (arith, c .before .before .before .pre .0 (l .s))
 
--- src/sums.rt:65:9
 add-s : tie.Need-add-s Inv-loop μ-loop
 add-s c = search needs
 
--- src/sums.rt:65:5
 loop-less : tie.Need-loop-less Inv-loop μ-loop
 loop-less c = search needs
 
--- src/sums.rt:65:5
 loop-again : tie.Need-loop-again Inv-loop μ-loop
 loop-again c =
     let l = c .before .before .loop in
     let e = ap (λ (x : ℕ). x + at (c .before .before .before .args .bests .now) (l .s)) (l .inv .2) ∙ sym (sumOf-next (l .s) _) in
     (omega arith, refl, e, omega (arith, c .before .before .before .pre .0 (l .s)))
 
--- src/sums.rt:60:1
 returns : tie.Need-returns Inv-loop μ-loop
 returns c =
     let l = c .before .loop in

@@ -1,3 +1,4 @@
+-- `free_rounds::sums::sum_streets` meets its contract. Assumes nothing.
 use borrow.Author.Needs.{needs}
 use mathlib.Core.Path.{_≡_, refl, sym, ap, _∙_}
 use mathlib.Core.List.{List}
@@ -9,9 +10,6 @@ use Rattle.free_rounds.specs.Held.{Summed}
 use Rattle.free_rounds.proofs.Turns.{summed-none, summed-turn, summed-end, row-ready, row-ends}
 use Rattle.free_rounds.proofs.sums.sum_streets.Statement.{statement}
 use Rattle.free_rounds.proofs.sums.sum_streets.Tie as tie
-use Rattle.free_rounds.proofs.sums.sum_streets.Reads as reads
-use Rattle.free_rounds.proofs.sums.sum_streets.Lts as lts
-use Rattle.free_rounds.proofs.sums.add_street.Reads as add-street-reads
 
 abbrev Inv-loop : tie.InvT-loop
 Inv-loop values bests m sums₀ width s₀ s-end sums s =
@@ -20,59 +18,48 @@ Inv-loop values bests m sums₀ width s₀ s-end sums s =
 abbrev μ-loop : tie.MeasureT-loop
 μ-loop values bests m sums₀ width s₀ s-end sums s = s-end - s
 
--- src/sums.rt:52:17
 add-width : tie.Need-add-width Inv-loop μ-loop
 add-width c = search needs
 
--- src/sums.rt:53:5
 loop-holds : tie.Need-loop-holds Inv-loop μ-loop
 loop-holds c = let p = c .before .before .before .pre in (search needs, refl, refl, refl, summed-none _ _ _ _ (p .1 .1))
 
--- src/sums.rt:54:20
 mul-from : tie.Need-mul-from Inv-loop μ-loop
 mul-from c =
     let a = c .before .before .before .before .before .args in
     let e = row-ends (length (a .bests .now)) (a .m) (c .before .loop .s) (a .values .now) (c .before .before .before .before .before .pre .0) (omega arith) in
     omega arith
 
--- src/sums.rt:55:18
 add-to : tie.Need-add-to Inv-loop μ-loop
 add-to c =
     let a = c .before .before .before .before .before .args in
     let e = row-ends (length (a .bests .now)) (a .m) (c .before .loop .s) (a .values .now) (c .before .before .before .before .before .pre .0) (omega arith) in
     omega arith
 
--- src/sums.rt:56:20
 mul-add-street : tie.Need-mul-add-street Inv-loop μ-loop
 mul-add-street c =
     let a = c .before .before .before .before .before .args in
     let e = row-ends (length (a .bests .now)) (a .m) (c .before .loop .s) (a .values .now) (c .before .before .before .before .before .pre .0) (omega arith) in
     omega arith
 
--- src/sums.rt:56:20
 sub-add-street : tie.Need-sub-add-street Inv-loop μ-loop
 sub-add-street c = search needs
 
--- src/sums.rt:56:20
 part-add-street-start : tie.Need-part-add-street-start Inv-loop μ-loop
 part-add-street-start c = search needs
 
--- src/sums.rt:56:20
 part-add-street-end : tie.Need-part-add-street-end Inv-loop μ-loop
 part-add-street-end c =
     let a = c .before .before .before .before .before .args in
     let e = row-ends (length (a .bests .now)) (a .m) (c .before .loop .s) (a .values .now) (c .before .before .before .before .before .pre .0) (omega arith) in
     omega arith
 
--- src/sums.rt:56:39
 mul-add-street-2 : tie.Need-mul-add-street-2 Inv-loop μ-loop
 mul-add-street-2 c = search needs
 
--- src/sums.rt:56:39
 shared-slice-read-add-street : tie.Need-shared-slice-read-add-street Inv-loop μ-loop
 shared-slice-read-add-street c = search needs
 
--- src/sums.rt:56:9
 add-street-requires : tie.Need-add-street-requires Inv-loop μ-loop
 add-street-requires c κs =
     let a = c .before .before .before .before .before .before .before .before .args in
@@ -80,15 +67,12 @@ add-street-requires c κs =
     let l = c .before .before .before .before .loop in
     row-ready (a .values .now) (a .bests .now) (l .sums) (a .m) (l .s) (length (a .bests .now)) (valueIn (a .values .now) (a .m)) (p .0) (p .1 .0) (omega arith) (l .inv .4)
 
--- src/sums.rt:53:9
 add-s : tie.Need-add-s Inv-loop μ-loop
 add-s c = search needs
 
--- src/sums.rt:53:5
 loop-less : tie.Need-loop-less Inv-loop μ-loop
 loop-less c = search needs
 
--- src/sums.rt:53:5
 loop-again : tie.Need-loop-again Inv-loop μ-loop
 loop-again c =
     let a = c .before .before .before .before .before .before .before .before .before .before .before .args in
@@ -97,11 +81,9 @@ loop-again c =
     let t = c .before .before .add-street .ensures in
     (omega arith, refl, refl, t .size ∙ l .inv .3, summed-turn (a .values .now) (a .bests .now) (a .m) (l .s) (l .sums) _ (p .0 .small) (p .1 .0) (l .inv .4) t)
 
--- src/sums.rt:47:1
 same-length : tie.Need-same-length Inv-loop μ-loop
 same-length c = let l = c .before .loop in l .inv .3
 
--- src/sums.rt:47:1
 returns : tie.Need-returns Inv-loop μ-loop
 returns c = let l = c .before .loop in summed-end _ _ _ _ (l .s) _ (omega arith) (omega arith) (l .inv .4)
 

@@ -5,7 +5,7 @@ use Rattle.planner.proofs.tries.row_score_refusal.Statement.{statement}
 use Rattle.planner.proofs.tries.row_score_refusal.Tie as tie
 
 returns : tie.Need-returns
-returns c = search chain depth 30
+returns c = search chain depth 40
 
 returns-2 : tie.Need-returns-2
 returns-2 c = search chain depth 40
@@ -28,14 +28,11 @@ row-refusal-requires c κs = search needs
 returns-6 : tie.Need-returns-6
 returns-6 c = search chain depth 40
 
+range-refusal-requires : tie.Need-range-refusal-requires
+range-refusal-requires c κs = search needs
+
 returns-7 : tie.Need-returns-7
 returns-7 c = search chain depth 40
-
-returns-8 : tie.Need-returns-8
-returns-8 c = search chain depth 40
-
-returns-9 : tie.Need-returns-9
-returns-9 c = search chain depth 40
 
 pub row-score-refusal-spec : {M : Type 1} → statement M
 row-score-refusal-spec =
@@ -49,6 +46,5 @@ row-score-refusal-spec =
     returns-5
     row-refusal-requires
     returns-6
-    returns-7
-    returns-8
-    returns-9)
+    range-refusal-requires
+    returns-7)

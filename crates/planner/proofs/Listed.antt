@@ -1,0 +1,101 @@
+-- What an accepted call holds: its survey, the number of sites, the list of sites that it was given, and the lengths of the buffers that it
+-- was lent.
+-- Assumes nothing.
+use mathlib.Core.Path.{_≡_, refl, subst}
+use mathlib.Core.Bool.{true, false}
+use mathlib.Core.Logic.{by-cases}
+use mathlib.Core.List.{List}
+use Prim.Native.Nat.{ℕ, zero, suc, _≤_, _<_}
+use native.Mathlib.Decide.{decLt}
+use native.Mathlib.Omega.{arith}
+use lib.Dec.{lit<}
+use lib.ListN.{length, take}
+use lib.Seq.{take-suc, take-length}
+use Rattle.counting.specs.Words.{_when_, _orElse_}
+use Rattle.counting.specs.Lists.{at, has, distinct}
+use Rattle.counting.specs.Sites.{Sites}
+use Rattle.counting.proofs.Membership.{distinct-last}
+use Rattle.counting.proofs.Sums.{at-past, has-index}
+use Rattle.counting.proofs.Refusals.{or-zero, when-zero, within, exact, first-none}
+use Rattle.survey.specs.Refusals.{lengthRefusal, surveyRefusal}
+use Rattle.survey.specs.Accepted.{Accepted}
+use Rattle.survey.proofs.Sound.{accepted, own-accepted, chosen-within}
+use Rattle.planner.specs.Refusals.{rangeRefusal, rangesRefusal, listRefusal, listTotalRefusal, freeDivisionRefusal, buffersRefusal, freePlanRefusal}
+
+-- ---- lists
+-- where no number stands before itself, none stands twice
+apart-upto : (S : List ℕ) → ((i : ℕ) → i < length S → has (at S i) (take i S) ≡ false) → (j : ℕ) → j ≤ length S → distinct (take j S) ≡ true
+apart-upto S h zero l = refl
+apart-upto S h (suc j) l = rw (take-suc S j 0 l) (distinct-last (at S j) (take j S) (apart-upto S h j (omega arith)) (h j l))
+
+apart : (S : List ℕ) → ((i : ℕ) → i < length S → has (at S i) (take i S) ≡ false) → distinct S ≡ true
+apart S h = rw take-length at (apart-upto S h (length S) (omega arith))
+
+-- ---- a given list of sites that is not refused: each is one of 1 to m, and none is listed twice
+module _ (m : ℕ) (sites : List ℕ) (e : listRefusal m sites ≡ 0) where
+  pub list-at : (i : ℕ) → i < length sites → (0 < at sites i) × (at sites i ≤ m)
+  list-at i l = within 17 (at sites i) 1 m (lit< tt) (first-none (length sites) (λ j. rangeRefusal 1 m (at sites j)) (or-zero (rangesRefusal 1 m sites) _ e .0) i l)
+
+  pub list-low : (i : ℕ) → at sites i ≤ m
+  list-low i = by-cases (decLt i (length sites)) (λ l. list-at i l .1) (λ l. omega (arith, at-past sites i (omega arith)))
+
+  pub list-sites : Sites m sites
+  list-sites a h = let (i, l, q) = has-index a sites h in subst (λ (b : ℕ). (0 < b) × (b ≤ m)) q (list-at i l)
+
+  pub list-apart : distinct sites ≡ true
+  list-apart = apart sites (λ i l. when-zero 20 _ (lit< tt) (first-none (length sites) (λ j. 20 when has (at sites j) (take j sites)) (or-zero (rangesRefusal 1 m sites) _ e .1) i l))
+
+-- ---- calls that are not refused
+-- with k sites to be chosen: the survey is sound, and k is one of 1 to m
+pub record Called (n m k : ℕ) (scores rows : List ℕ) : Type 0 where
+  pub survey : Accepted n m scores rows
+  pub some : 1 ≤ k
+  pub few : k ≤ m
+
+-- with a given list of sites: the same of their number, and the list is not refused
+pub record Listed (n m : ℕ) (scores rows sites : List ℕ) : Type 0 where
+  pub called : Called n m (length sites) scores rows
+  pub list : listRefusal m sites ≡ 0
+
+pub called : (n m k own : ℕ) (scores rows : List ℕ) → surveyRefusal n m k own scores rows ≡ 0 → Called n m k scores rows
+called n m k own scores rows e =
+    let (some, few) = chosen-within n m k own scores rows e in
+    record { survey = accepted n m k own scores rows e; some = some; few = few }
+
+-- a buffer that is not refused has its exact length
+pub fits : (given due : ℕ) → lengthRefusal given due ≡ 0 → given ≡ due
+fits given due = exact 6 given due (lit< tt)
+
+pub buffers-fit : (n k : ℕ) (division chosen : List ℕ) → buffersRefusal n k division chosen ≡ 0 → (length division ≡ n) × (length chosen ≡ k)
+buffers-fit n k division chosen e =
+    let (d, c) = or-zero (lengthRefusal (length division) n) _ e in
+    (fits (length division) n d, fits (length chosen) k c)
+
+-- the calls with a given list, whatever they try besides
+module _ (n m own : ℕ) (scores rows sites : List ℕ) (e : surveyRefusal n m (length sites) own scores rows orElse listRefusal m sites ≡ 0) where
+  both : (surveyRefusal n m (length sites) own scores rows ≡ 0) × (listRefusal m sites ≡ 0)
+  both = or-zero (surveyRefusal n m (length sites) own scores rows) (listRefusal m sites) e
+
+  pub listed : Listed n m scores rows sites
+  listed = record { called = called n m (length sites) own scores rows (both .0); list = both .1 }
+
+  pub listed-own : own ≡ 0
+  listed-own = own-accepted n m (length sites) own scores rows (both .0)
+
+module _ (n m : ℕ) (scores rows sites : List ℕ) where
+  pub list-total-listed : listTotalRefusal n m scores rows sites ≡ 0 → Listed n m scores rows sites
+  list-total-listed = listed n m 0 scores rows sites
+
+  module _ (division : List ℕ) (e : freeDivisionRefusal n m scores rows sites division ≡ 0) where
+    pub free-division-listed : Listed n m scores rows sites
+    free-division-listed = listed n m _ scores rows sites e
+
+    pub free-division-fits : length division ≡ n
+    free-division-fits = fits (length division) n (listed-own n m _ scores rows sites e)
+
+module _ (n m k : ℕ) (scores rows division chosen : List ℕ) (e : freePlanRefusal n m k scores rows division chosen ≡ 0) where
+  pub free-plan-called : Called n m k scores rows
+  free-plan-called = called n m k _ scores rows e
+
+  pub free-plan-fits : (length division ≡ n) × (length chosen ≡ k)
+  free-plan-fits = buffers-fit n k division chosen (own-accepted n m k _ scores rows e)

@@ -1,0 +1,21 @@
+-- `planner::tries::list_refusal` meets its contract. Assumes nothing.
+use borrow.Author.Needs.{needs}
+use Rattle.counting.proofs.Refusals.{chain}
+use Rattle.planner.proofs.tries.list_refusal.Statement.{statement}
+use Rattle.planner.proofs.tries.list_refusal.Tie as tie
+
+ranges-refusal-requires : tie.Need-ranges-refusal-requires
+ranges-refusal-requires c κs = search needs
+
+returns : tie.Need-returns
+returns c = search chain
+
+twice-refusal-requires : tie.Need-twice-refusal-requires
+twice-refusal-requires c κs = search needs
+
+returns-2 : tie.Need-returns-2
+returns-2 c = search chain
+
+pub list-refusal-spec : {M : Type 1} → statement M
+list-refusal-spec =
+    tie.close (tie.spec ranges-refusal-requires returns twice-refusal-requires returns-2)
