@@ -1,4 +1,4 @@
 pub mod Totals
 pub mod Sites
 pub mod Bound
-pub mod Agree
+pub mod Valued

@@ -19,7 +19,7 @@ use Rattle.survey.specs.Rows.{rowOf, rankedPart, listOfStreet, value}
 use Rattle.survey.specs.Accepted.{Accepted}
 use Rattle.values.proofs.Laws.{valued-bound}
 use Rattle.free_plan.specs.Greedy.{total, goesTo, chosenAt}
-use Rattle.free_plan.proofs.Agree.{AtMost}
+use Rattle.free_plan.proofs.Valued.{AtMost}
 use Rattle.free_rounds.specs.declared.State.{State}
 use Rattle.free_rounds.specs.Held.{Held, Scores, sitesOf}
 use Rattle.free_rounds.proofs.Rounded.{bests-small, total-is}

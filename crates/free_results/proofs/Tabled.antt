@@ -15,7 +15,7 @@ use Rattle.survey.specs.Accepted.{Accepted}
 use Rattle.values.specs.Table.{Blank, Valued, valueIn}
 use Rattle.values.proofs.Laws.{valued-bound}
 use Rattle.free_plan.specs.Greedy.{greedy}
-use Rattle.free_plan.proofs.Agree.{AtMost, best-agree, greedy-agree, greedy-most}
+use Rattle.free_plan.proofs.Valued.{AtMost, best-agree, greedy-agree, greedy-most}
 use Rattle.free_rounds.specs.declared.State.{State}
 use Rattle.free_rounds.specs.Held.{Held, Table, sitesOf}
 

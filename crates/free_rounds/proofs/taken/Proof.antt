@@ -23,7 +23,10 @@ empty-requires : tie.Need-empty-requires Inv-loop μ-loop
 empty-requires c κs = search needs
 
 loop-holds : tie.Need-loop-holds Inv-loop μ-loop
-loop-holds c = let t = start-holds _ _ _ (c .empty .ensures) in (omega arith, refl, t .0, t .1, t .2)
+loop-holds c =
+    let a = c .before .before .before .args in
+    let t = start-holds (valueIn (a .values .now) (a .m)) (a .n) (c .empty .result) (c .empty .ensures) in
+    (omega arith, refl, t .0, t .1, t .2)
 
 shared-slice-read-taking : tie.Need-shared-slice-read-taking Inv-loop μ-loop
 shared-slice-read-taking c = search needs

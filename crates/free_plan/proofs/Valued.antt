@@ -25,7 +25,7 @@ pub greedy-most : (v : ℕ → ℕ → ℕ) (n m k : ℕ) (S : List ℕ) → AtM
 greedy-most v n m zero S h = h
 greedy-most v n m (suc k) S h =
     let so = greedy v n m k S in
-    at-most-more m so (pick v n m so) (greedy-most v n m k S h) (greatest-le (unchosen so) (totalWith v n so) m)
+    at-most-more m so _ (greedy-most v n m k S h) (greatest-le (unchosen so) _ m)
 
 module _ (v w : ℕ → ℕ → ℕ) (n m : ℕ) (same : (s a : ℕ) → s < n → a ≤ m → v s a ≡ w s a) where
   pub best-agree : (s : ℕ) → s < n → (S : List ℕ) → AtMost m S → best (v s) S ≡ best (w s) S
