@@ -12,11 +12,11 @@ use Rattle.free_plan.proofs.Sites.{free-plan}
 use Rattle.free_plan.proofs.Bound.{bound-plan}
 use Rattle.free_results.proofs.Scored.{served-total}
 use Rattle.planner.specs.Plans.{listTotal, freeDivision, freeSites}
-use Rattle.planner.specs.Refusals.{freePlanRefusal}
+use Rattle.refusals.specs.Refusals.{freePlanRefusal}
 use Rattle.planner.specs.Answers.{Told}
 use Rattle.planner.specs.Good.{GoodFree}
 use Rattle.planner.proofs.Laws.{told-total, new-accepted}
-use Rattle.planner.proofs.Listed.{free-plan-called, free-plan-fits}
+use Rattle.refusals.proofs.Listed.{free-plan-called, free-plan-fits}
 
 module _ (n m k : ℕ) (scores rows : List ℕ) (ok : Accepted n m scores rows) (few : k ≤ m) where
   good-free : GoodFree n m k scores rows (freeDivision n m rows (freeSites n m k scores rows)) (freeSites n m k scores rows) (listTotal n m scores rows (freeSites n m k scores rows))

@@ -4,17 +4,15 @@ use mathlib.Core.Path.{_≡_}
 use mathlib.Core.List.{List}
 use Prim.Native.Nat.{ℕ, _-_, _*_, _^_, _≤_}
 use Rattle.counting.specs.Sites.{Plan}
-use Rattle.survey.specs.Rows.{value}
-use Rattle.free_plan.specs.Greedy.{total}
-use Rattle.division.specs.Shares.{divisionTotal}
+use Rattle.planner.specs.Plans.{listTotal, planTotal}
 
 -- a free plan of k sites with the total that it reports
 pub record GoodFree (n m k : ℕ) (scores rows division chosen : List ℕ) (reported : ℕ) : Type 0 where
   -- the sites are k different ones of 1 to m
   pub sites : Plan m k chosen
   -- the total is that of the sites, and the sum of the scores that the streets give the sites they go to
-  pub of-sites : reported ≡ total (value m scores rows) n chosen
-  pub of-streets : reported ≡ divisionTotal (value m scores rows) division
+  pub of-sites : reported ≡ listTotal n m scores rows chosen
+  pub of-streets : reported ≡ planTotal m scores rows division
   -- no choice of k sites is better by more than the bound says: K ^ K * (T - S) ≤ (K - 1) ^ K * T
   pub bound : (other : List ℕ) → Plan m k other
-      → k ^ k * (total (value m scores rows) n other - reported) ≤ (k - 1) ^ k * total (value m scores rows) n other
+      → k ^ k * (listTotal n m scores rows other - reported) ≤ (k - 1) ^ k * listTotal n m scores rows other

@@ -1,4 +1,3 @@
-pub mod Refusals
 pub mod Plans
 pub mod Answers
 pub mod Good

@@ -4,12 +4,10 @@ ghost use mathlib.Core.Path.{_≡_};
 ghost use mathlib.Core.Bool.{true};
 ghost use Rattle.survey.specs.Rows.{rankedPart, scoreOf};
 ghost use Rattle.counting.specs.Buffers.{after};
-ghost use Rattle.planner.specs.Refusals.{checkRefusal, rowScoreRefusal, listTotalRefusal, freeDivisionRefusal, freePlanRefusal};
+ghost use Rattle.refusals.specs.Refusals.{checkRefusal, rowScoreRefusal, listTotalRefusal, freeDivisionRefusal, freePlanRefusal};
 ghost use Rattle.planner.specs.Plans.{listTotal, freeDivision, freeSites};
 ghost use Rattle.planner.specs.Good.{GoodFree};
 ghost use Rattle.planner.specs.Answers.{Answered, Told, checkedNumber, checkedAccepts, number, accepts, total};
-
-mod tries;
 
 // The answer of a check.
 pub enum Checked {
@@ -45,7 +43,7 @@ pub fn ranked_part(row: &[u8]) -> &[u8]
 pub fn row_score(m: usize, scores: &[u16], row: &[u8], site: u8) -> Answer
     ensures { λ r. ⌜ Told (number r) (accepts r) (total r) (rowScoreRefusal m (now (scores .entry)) (now (row .entry)) site) (scoreOf (now (scores .entry)) (now (row .entry)) site) ⌝ }
 {
-    let x = tries::row_score_refusal(m, scores, row, site);
+    let x = refusals::row_score_refusal(m, scores, row, site);
     if x != 0 {
         return Answer::Refused(x);
     }
@@ -56,7 +54,7 @@ pub fn row_score(m: usize, scores: &[u16], row: &[u8], site: u8) -> Answer
 pub fn list_total(n: usize, m: usize, scores: &[u16], rows: &[u8], sites: &[u8]) -> Answer
     ensures { λ r. ⌜ Told (number r) (accepts r) (total r) (listTotalRefusal n m (now (scores .entry)) (now (rows .entry)) (now (sites .entry))) (listTotal n m (now (scores .entry)) (now (rows .entry)) (now (sites .entry))) ⌝ }
 {
-    let x = tries::list_total_refusal(n, m, scores, rows, sites);
+    let x = refusals::list_total_refusal(n, m, scores, rows, sites);
     if x != 0 {
         return Answer::Refused(x);
     }
@@ -75,7 +73,7 @@ pub fn free_division(
     ensures answer { λ r. ⌜ Told (number r) (accepts r) (total r) (freeDivisionRefusal n m (now (scores .entry)) (now (rows .entry)) (now (sites .entry)) (now (division .entry))) (listTotal n m (now (scores .entry)) (now (rows .entry)) (now (sites .entry))) ⌝ }
     ensures division { λ _. ⌜ now (division .exit) ≡ after (freeDivisionRefusal n m (now (scores .entry)) (now (rows .entry)) (now (sites .entry)) (now (division .entry))) (freeDivision n m (now (rows .entry)) (now (sites .entry))) (now (division .entry)) ⌝ }
 {
-    let x = tries::free_division_refusal(n, m, scores, rows, sites, division);
+    let x = refusals::free_division_refusal(n, m, scores, rows, sites, division);
     if x != 0 {
         return Answer::Refused(x);
     }
@@ -97,7 +95,7 @@ pub fn free_plan(
     ensures chosen { λ _. ⌜ now (chosen .exit) ≡ after (freePlanRefusal n m k (now (scores .entry)) (now (rows .entry)) (now (division .entry)) (now (chosen .entry))) (freeSites n m k (now (scores .entry)) (now (rows .entry))) (now (chosen .entry)) ⌝ }
     ensures good { λ r. ⌜ (accepts r ≡ true → GoodFree n m k (now (scores .entry)) (now (rows .entry)) (now (division .exit)) (now (chosen .exit)) (total r)) ⌝ }
 {
-    let x = tries::free_plan_refusal(n, m, k, scores, rows, division, chosen);
+    let x = refusals::free_plan_refusal(n, m, k, scores, rows, division, chosen);
     if x != 0 {
         return Answer::Refused(x);
     }

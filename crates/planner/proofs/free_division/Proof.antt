@@ -2,7 +2,7 @@
 use borrow.Author.Needs.{needs}
 use mathlib.Core.Path.{_≡_, sym, _∙_}
 use Rattle.planner.proofs.Laws.{answers, told-total, kept-refused, new-accepted}
-use Rattle.planner.proofs.Listed.{free-division-listed, free-division-fits, list-low}
+use Rattle.refusals.proofs.Listed.{free-division-listed, free-division-fits, list-low}
 use Rattle.planner.proofs.free_division.Statement.{statement}
 use Rattle.planner.proofs.free_division.Tie as tie
 

@@ -4,7 +4,7 @@ use mathlib.Core.Path.{_≡_, sym, _∙_}
 use mathlib.Core.Bool.{false≢true}
 use native.Mathlib.Omega.{arith}
 use Rattle.planner.proofs.Laws.{told-refused, kept-refused}
-use Rattle.planner.proofs.Listed.{free-plan-called, free-plan-fits}
+use Rattle.refusals.proofs.Listed.{free-plan-called, free-plan-fits}
 use Rattle.planner.proofs.Freely.{free-plan-given}
 use Rattle.planner.proofs.free_plan.Statement.{statement}
 use Rattle.planner.proofs.free_plan.Tie as tie

@@ -2,7 +2,7 @@
 use borrow.Author.Needs.{needs}
 use mathlib.Core.Path.{_≡_, sym, _∙_}
 use Rattle.planner.proofs.Laws.{answers}
-use Rattle.planner.proofs.Listed.{list-total-listed, list-low}
+use Rattle.refusals.proofs.Listed.{list-total-listed, list-low}
 use Rattle.planner.proofs.list_total.Statement.{statement}
 use Rattle.planner.proofs.list_total.Tie as tie
 

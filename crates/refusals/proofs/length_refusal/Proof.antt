@@ -1,7 +1,7 @@
--- `planner::tries::length_refusal` meets its contract. Assumes nothing.
+-- `refusals::length_refusal` meets its contract. Assumes nothing.
 use Rattle.counting.proofs.Refusals.{chain}
-use Rattle.planner.proofs.tries.length_refusal.Statement.{statement}
-use Rattle.planner.proofs.tries.length_refusal.Tie as tie
+use Rattle.refusals.proofs.length_refusal.Statement.{statement}
+use Rattle.refusals.proofs.length_refusal.Tie as tie
 
 returns : tie.Need-returns
 returns c = search chain

@@ -1,7 +1,7 @@
--- `planner::tries::again_refusal` meets its contract. Assumes nothing.
+-- `refusals::again_refusal` meets its contract. Assumes nothing.
 use Rattle.counting.proofs.Refusals.{chain}
-use Rattle.planner.proofs.tries.again_refusal.Statement.{statement}
-use Rattle.planner.proofs.tries.again_refusal.Tie as tie
+use Rattle.refusals.proofs.again_refusal.Statement.{statement}
+use Rattle.refusals.proofs.again_refusal.Tie as tie
 
 returns : tie.Need-returns
 returns c = search chain

@@ -1,8 +1,8 @@
--- `planner::tries::listed_refusal` meets its contract. Assumes nothing.
+-- `refusals::listed_refusal` meets its contract. Assumes nothing.
 use borrow.Author.Needs.{needs}
 use Rattle.counting.proofs.Refusals.{chain}
-use Rattle.planner.proofs.tries.listed_refusal.Statement.{statement}
-use Rattle.planner.proofs.tries.listed_refusal.Tie as tie
+use Rattle.refusals.proofs.listed_refusal.Statement.{statement}
+use Rattle.refusals.proofs.listed_refusal.Tie as tie
 
 survey-refusal-requires : tie.Need-survey-refusal-requires
 survey-refusal-requires c κs = search needs

@@ -1,7 +1,7 @@
--- `planner::tries::free_division_refusal` meets its contract. Assumes nothing.
+-- `refusals::free_division_refusal` meets its contract. Assumes nothing.
 use borrow.Author.Needs.{needs}
-use Rattle.planner.proofs.tries.free_division_refusal.Statement.{statement}
-use Rattle.planner.proofs.tries.free_division_refusal.Tie as tie
+use Rattle.refusals.proofs.free_division_refusal.Statement.{statement}
+use Rattle.refusals.proofs.free_division_refusal.Tie as tie
 
 length-refusal-requires : tie.Need-length-refusal-requires
 length-refusal-requires c κs = search needs

@@ -20,7 +20,7 @@ use Rattle.counting.proofs.Refusals.{or-zero, when-zero, within, exact, first-n
 use Rattle.survey.specs.Refusals.{lengthRefusal, surveyRefusal}
 use Rattle.survey.specs.Accepted.{Accepted}
 use Rattle.survey.proofs.Sound.{accepted, own-accepted, chosen-within}
-use Rattle.planner.specs.Refusals.{rangeRefusal, rangesRefusal, listRefusal, listTotalRefusal, freeDivisionRefusal, buffersRefusal, freePlanRefusal}
+use Rattle.refusals.specs.Refusals.{rangeRefusal, rangesRefusal, listRefusal, listTotalRefusal, freeDivisionRefusal, buffersRefusal, freePlanRefusal}
 
 -- ---- lists
 -- where no number stands before itself, none stands twice

@@ -1,8 +1,8 @@
--- `planner::tries::row_score_refusal` meets its contract. Assumes nothing.
+-- `refusals::row_score_refusal` meets its contract. Assumes nothing.
 use borrow.Author.Needs.{needs}
 use Rattle.counting.proofs.Refusals.{chain}
-use Rattle.planner.proofs.tries.row_score_refusal.Statement.{statement}
-use Rattle.planner.proofs.tries.row_score_refusal.Tie as tie
+use Rattle.refusals.proofs.row_score_refusal.Statement.{statement}
+use Rattle.refusals.proofs.row_score_refusal.Tie as tie
 
 returns : tie.Need-returns
 returns c = search chain depth 40

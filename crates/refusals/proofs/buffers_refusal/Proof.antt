@@ -1,8 +1,8 @@
--- `planner::tries::buffers_refusal` meets its contract. Assumes nothing.
+-- `refusals::buffers_refusal` meets its contract. Assumes nothing.
 use borrow.Author.Needs.{needs}
 use Rattle.counting.proofs.Refusals.{chain}
-use Rattle.planner.proofs.tries.buffers_refusal.Statement.{statement}
-use Rattle.planner.proofs.tries.buffers_refusal.Tie as tie
+use Rattle.refusals.proofs.buffers_refusal.Statement.{statement}
+use Rattle.refusals.proofs.buffers_refusal.Tie as tie
 
 length-refusal-requires : tie.Need-length-refusal-requires
 length-refusal-requires c κs = search needs

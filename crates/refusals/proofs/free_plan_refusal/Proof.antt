@@ -1,7 +1,7 @@
--- `planner::tries::free_plan_refusal` meets its contract. Assumes nothing.
+-- `refusals::free_plan_refusal` meets its contract. Assumes nothing.
 use borrow.Author.Needs.{needs}
-use Rattle.planner.proofs.tries.free_plan_refusal.Statement.{statement}
-use Rattle.planner.proofs.tries.free_plan_refusal.Tie as tie
+use Rattle.refusals.proofs.free_plan_refusal.Statement.{statement}
+use Rattle.refusals.proofs.free_plan_refusal.Tie as tie
 
 buffers-refusal-requires : tie.Need-buffers-refusal-requires
 buffers-refusal-requires c κs = search needs

@@ -1,11 +1,11 @@
-// What each entry tries: the number that its definition gives, and 0 where the call is accepted.
+// What each call turns down: the number that its definition gives, and 0 where the call is accepted.
 use survey::Survey;
 use survey::check;
 ghost use mathlib.Core.Path.{_≡_};
 ghost use lib.ListN.{length};
 ghost use Rattle.counting.specs.Words.{_when_, _orElse_};
 ghost use Rattle.survey.specs.Refusals.{lengthRefusal, surveyRefusal};
-ghost use Rattle.planner.specs.Refusals.{rangeRefusal, rowScoreRefusal, rangesRefusal, twiceRefusal, listRefusal, listTotalRefusal, freeDivisionRefusal, buffersRefusal, freePlanRefusal};
+ghost use Rattle.refusals.specs.Refusals.{rangeRefusal, rowScoreRefusal, rangesRefusal, twiceRefusal, listRefusal, listTotalRefusal, freeDivisionRefusal, buffersRefusal, freePlanRefusal};
 
 // 6: a lent buffer of other than its exact length.
 fn length_refusal(given: usize, due: usize) -> u8

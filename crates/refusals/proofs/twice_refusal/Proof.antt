@@ -1,4 +1,4 @@
--- `planner::tries::twice_refusal` meets its contract. Assumes nothing.
+-- `refusals::twice_refusal` meets its contract. Assumes nothing.
 use borrow.Author.Needs.{needs}
 use mathlib.Core.Path.{_≡_, refl}
 use Prim.Native.Nat.{_≤_, _<_, _-_}
@@ -10,8 +10,8 @@ use Rattle.counting.specs.Marks.{Marks}
 use Rattle.counting.proofs.Marking.{marks-none}
 use Rattle.counting.proofs.Refusals.{loop, first-start, first-found, first-next}
 use Rattle.survey.proofs.Laws.{seen-more}
-use Rattle.planner.proofs.tries.twice_refusal.Statement.{statement}
-use Rattle.planner.proofs.tries.twice_refusal.Tie as tie
+use Rattle.refusals.proofs.twice_refusal.Statement.{statement}
+use Rattle.refusals.proofs.twice_refusal.Tie as tie
 
 abbrev Inv-loop : tie.InvT-loop
 Inv-loop sites seen₀ j₀ j-end seen j = (j ≤ j-end) × (j-end ≡ length sites) × (firstOf j (λ i. 20 when has (at sites i) (take i sites)) ≡ 0) × Marks seen (take j sites)

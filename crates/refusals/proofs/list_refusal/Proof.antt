@@ -1,8 +1,8 @@
--- `planner::tries::list_refusal` meets its contract. Assumes nothing.
+-- `refusals::list_refusal` meets its contract. Assumes nothing.
 use borrow.Author.Needs.{needs}
 use Rattle.counting.proofs.Refusals.{chain}
-use Rattle.planner.proofs.tries.list_refusal.Statement.{statement}
-use Rattle.planner.proofs.tries.list_refusal.Tie as tie
+use Rattle.refusals.proofs.list_refusal.Statement.{statement}
+use Rattle.refusals.proofs.list_refusal.Tie as tie
 
 ranges-refusal-requires : tie.Need-ranges-refusal-requires
 ranges-refusal-requires c κs = search needs

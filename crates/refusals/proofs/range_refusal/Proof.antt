@@ -1,7 +1,7 @@
--- `planner::tries::range_refusal` meets its contract. Assumes nothing.
+-- `refusals::range_refusal` meets its contract. Assumes nothing.
 use Rattle.counting.proofs.Refusals.{chain}
-use Rattle.planner.proofs.tries.range_refusal.Statement.{statement}
-use Rattle.planner.proofs.tries.range_refusal.Tie as tie
+use Rattle.refusals.proofs.range_refusal.Statement.{statement}
+use Rattle.refusals.proofs.range_refusal.Tie as tie
 
 returns : tie.Need-returns
 returns c = search chain

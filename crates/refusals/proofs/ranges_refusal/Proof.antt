@@ -1,13 +1,13 @@
--- `planner::tries::ranges_refusal` meets its contract. Assumes nothing.
+-- `refusals::ranges_refusal` meets its contract. Assumes nothing.
 use mathlib.Core.Path.{_≡_}
 use Prim.Native.Nat.{_≤_, _-_}
 use lib.ListN.{length}
 use Rattle.counting.specs.Words.{firstOf}
 use Rattle.counting.specs.Lists.{at}
 use Rattle.counting.proofs.Refusals.{loop}
-use Rattle.planner.specs.Refusals.{rangeRefusal}
-use Rattle.planner.proofs.tries.ranges_refusal.Statement.{statement}
-use Rattle.planner.proofs.tries.ranges_refusal.Tie as tie
+use Rattle.refusals.specs.Refusals.{rangeRefusal}
+use Rattle.refusals.proofs.ranges_refusal.Statement.{statement}
+use Rattle.refusals.proofs.ranges_refusal.Tie as tie
 
 abbrev Inv-loop : tie.InvT-loop
 Inv-loop low m sites j₀ j-end j = (j ≤ j-end) × (j-end ≡ length sites) × (firstOf j (λ i. rangeRefusal low m (at sites i)) ≡ 0)
