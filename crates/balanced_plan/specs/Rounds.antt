@@ -1,12 +1,12 @@
 -- The rounds of the balanced plan, as document 01 has them (Monroe, Algorithm A), over any value `v street site` and any order of the
 -- streets by a key `key site street`. A round's share is a function of its number, counted from 0.
 -- Assumes nothing.
-use Prim.Native.Nat.{ℕ, zero, suc, _+_, _/_}
+use Prim.Native.Nat.{ℕ, zero, suc, _/_}
 use mathlib.Core.Bool.{Bool, cond}
 use mathlib.Core.List.{List, [], _∷_, _++_}
 use lib.Dec.{ltb, eqb}
 use lib.ListN.{length, take, set, replicate}
-use Rattle.counting.specs.Words.{_when_, _orElse_}
+use Rattle.counting.specs.Words.{_orElse_}
 use Rattle.counting.specs.Lists.{at, sum}
 use Rattle.counting.specs.Choice.{greatest, unchosen}
 

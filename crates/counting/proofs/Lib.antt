@@ -4,3 +4,4 @@ pub mod Choice
 pub mod Sums
 pub mod Marking
 pub mod Filling
+pub mod Parts

@@ -9,11 +9,12 @@ use mathlib.Core.List.{List, [], _∷_, _++_}
 use Prim.Native.Nat.{ℕ, zero, suc, _+_, _≤_, _<_}
 use native.Mathlib.Omega.{arith}
 use lib.Dec.{eqb, leb}
-use lib.ListN.{length}
+use lib.ListN.{length, take}
+use lib.Seq.{take-suc, take-length}
 use borrow.Author.Tests.{eqb-true, eqb-false, eq-eqb, ne-eqb, leb-true, le-leb, lt-leb, not-true}
 use Rattle.counting.specs.Words.{one}
-use Rattle.counting.specs.Lists.{has, distinct, sum}
-use Rattle.counting.proofs.Refusals.{or-right}
+use Rattle.counting.specs.Lists.{at, has, distinct, sum}
+use Rattle.counting.proofs.Refusals.{or-right, or-neither}
 
 -- what holds of both sides of a choice holds of the choice; each side may use the test's outcome
 pub cond-at {ℓ κ} : {A : Type ℓ} (P : A → Type κ) (t : Bool) {x y : A} → (t ≡ true → P x) → (t ≡ false → P y) → P (cond t x y)
@@ -127,3 +128,17 @@ distinct-within (a ∷ R) Z d h =
       distinct-within R Z apart (λ z i. h z (has-tail z a R i)),
       sum-two _ _ (λ z. one (has z (a ∷ R))) Z (λ z i. one-new a R (not-true (has a R) new) z),
     )
+
+-- a number that stands at no index does not stand in the list
+pub has-none : (a : ℕ) (L : List ℕ) → ((i : ℕ) → i < length L → eqb (at L i) a ≡ false) → has a L ≡ false
+has-none a [] h = refl
+has-none a (b ∷ L) h =
+    or-neither (eqb a b) (has a L) (ne-eqb a b (λ e. eqb-false b a (h 0 (omega arith)) (sym e))) (has-none a L (λ i l. h (suc i) (omega arith)))
+
+-- where no number stands before itself, none stands twice
+apart-upto : (S : List ℕ) → ((i : ℕ) → i < length S → has (at S i) (take i S) ≡ false) → (j : ℕ) → j ≤ length S → distinct (take j S) ≡ true
+apart-upto S h zero l = refl
+apart-upto S h (suc j) l = rw (take-suc S j 0 l) (distinct-last (at S j) (take j S) (apart-upto S h j (omega arith)) (h j l))
+
+pub apart : (S : List ℕ) → ((i : ℕ) → i < length S → has (at S i) (take i S) ≡ false) → distinct S ≡ true
+apart S h = rw take-length at (apart-upto S h (length S) (omega arith))

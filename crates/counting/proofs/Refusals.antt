@@ -2,14 +2,14 @@
 -- showed. The rulesets are for `search`: `chain` for a row of tests with a return each, `loop` for a loop that returns the first refusal.
 -- Assumes nothing.
 use mathlib.Core.Path.{_≡_, refl, sym, ap, _∙_}
-use mathlib.Core.Bool.{Bool, true, false, not, _&&_, _||_, true≢false}
+use mathlib.Core.Bool.{Bool, true, false, _&&_, _||_, true≢false}
 use Prim.Native.Nat.{ℕ, zero, suc, _+_, _-_, _≤_, _<_}
-use native.Mathlib.Nat.{zero-add, le-antisymm, suc-ne-zero, not-suc-le-zero, le-of-suc-le-suc, eq-or-lt-of-le}
+use native.Mathlib.Nat.{zero-add, eq-zero-or-pos, le-antisymm, suc-ne-zero, not-suc-le-zero, le-of-suc-le-suc, eq-or-lt-of-le}
 use native.Mathlib.Numerals.{add-one}
 use native.Mathlib.Omega.{arith}
 use mathlib.Core.Logic.{⊎-elim}
 use lib.Dec.{ltb, eqb, lit<}
-use borrow.Author.Tests.{lt-ltb, le-ltb, eq-eqb, ne-eqb, ltb-false, ltb-true, eqb-true}
+use borrow.Author.Tests.{lt-ltb, le-ltb, eq-eqb, ne-eqb, ltb-false, eqb-true}
 use Rattle.counting.specs.Words.{_when_, _unless_, _orElse_, firstOf, outside}
 
 -- a number where its test holds, and 0 where it fails
@@ -203,3 +203,30 @@ pub first-same : (n : ℕ) (f g : ℕ → ℕ) → ((i : ℕ) → i < n → f i 
 unfolding firstOf
 first-same zero f g h = refl
 first-same (suc n) f g h = rw (first-same n f g (λ i l. h i (omega arith)), h n (omega arith))
+
+-- the first of numbers that are all 0 is 0
+pub first-zeros : (n : ℕ) (f : ℕ → ℕ) → ((i : ℕ) → i < n → f i ≡ 0) → firstOf n f ≡ 0
+unfolding firstOf
+first-zeros zero f h = refl
+first-zeros (suc n) f h = sym (or-pass 0 (firstOf n f) (firstOf n f) (f n) refl (first-zeros n f (λ i l. h i (omega arith))) (sym (h n (omega arith))))
+
+-- the first number that is not 0 stands at an index, and before it stand zeros alone
+pub first-find : (n : ℕ) (f : ℕ → ℕ) → 0 < firstOf n f → (i : ℕ) × (i < n) × (f i ≡ firstOf n f) × ((j : ℕ) → j < i → f j ≡ 0)
+unfolding firstOf
+first-find zero f h = absurd (omega arith)
+first-find (suc n) f h =
+    ⊎-elim (λ z. (n, omega arith, own-pass (f n) (firstOf n f) (f n) z refl, first-none n f z))
+    (λ p. let (i, l, e, q) = first-find n f p in (i, omega arith, e ∙ own-stop (firstOf n f) (f n) (λ z. omega arith), q))
+    (eq-zero-or-pos (firstOf n f))
+
+-- a number that is above 0 where its test holds is itself, and the test holds
+pub when-some : (x : ℕ) (t : Bool) → 0 < (x when t) → (t ≡ true) × (x when t ≡ x)
+unfolding _when_
+when-some x true h = (refl, refl)
+when-some x false h = absurd (omega arith)
+
+-- nothing behind a number
+pub or-none : (x : ℕ) → x orElse 0 ≡ x
+unfolding _orElse_
+or-none zero = refl
+or-none (suc x) = refl

@@ -3,7 +3,7 @@
 use mathlib.Core.Path.{_≡_, refl, sym, _∙_}
 use mathlib.Core.Bool.{true, false≢true}
 use mathlib.Core.Logic.{_≢_, ⊎-elim, by-cases}
-use mathlib.Core.List.{List, [], _∷_}
+use mathlib.Core.List.{List, [], _∷_, _++_}
 use Prim.Native.Nat.{ℕ, zero, suc, _+_, _*_, _≤_, _<_}
 use native.Mathlib.Nat.{le-antisymm, eq-or-lt-of-le, le-of-suc-le-suc}
 use native.Mathlib.Decide.{ℕ-discrete}
@@ -11,8 +11,8 @@ use native.Mathlib.Numerals.{add-one}
 use native.Mathlib.Omega.{arith}
 use lib.Dec.{eqb}
 use borrow.Author.Tests.{eqb-true}
-use lib.ListN.{length, length-append, List·getD-append, List·getD-eq-default}
-use lib.Seq.{getD-at}
+use lib.ListN.{length, take, length-append, List·getD-append, List·getD-eq-default}
+use lib.Seq.{take-suc, getD-at}
 use Rattle.counting.specs.Words.{sumOf}
 use Rattle.counting.specs.Lists.{at, has}
 use Rattle.counting.specs.Buffers.{joined, listOf}
@@ -84,3 +84,7 @@ pub has-index : (a : ℕ) (S : List ℕ) → has a S ≡ true → (i : ℕ) × (
 has-index a [] h = absurd (false≢true h)
 has-index a (b ∷ S) h =
     ⊎-elim (λ e. (0, omega arith, sym (eqb-true a b e))) (λ e. let (i, l, q) = has-index a S e in (suc i, omega arith, q)) (or-cases (eqb a b) (has a S) h)
+
+-- a list with one entry more
+pub take-next : (list : List ℕ) (i : ℕ) → i < length list → take (i + 1) list ≡ take i list ++ (at list i ∷ [])
+take-next list i l = rw (add-one, take-suc list i 0 l) refl

@@ -3,7 +3,7 @@
 -- Assumes nothing.
 use mathlib.Core.Path.{_≡_, refl, sym}
 use mathlib.Core.Logic.{⊎-elim, by-cases}
-use mathlib.Core.List.{List, [], _∷_}
+use mathlib.Core.List.{List, [], _∷_, _++_}
 use Prim.Native.Nat.{ℕ, zero, suc, _+_, _*_, _≤_, _<_, pred, suc-le-suc}
 use native.Mathlib.Nat.{le-of-suc-le-suc, le-antisymm, le-of-eq, eq-or-lt-of-le}
 use native.Mathlib.Decide.{decLt}
@@ -11,8 +11,10 @@ use native.Mathlib.Omega.{arith}
 use lib.Dec.{eqb, eqb·zero-suc, eqb·suc-zero, eqb·suc-suc}
 use lib.ListN.{length, take, set}
 use borrow.Author.Tests.{eq-eqb}
-use Rattle.counting.specs.Words.{one}
+use Rattle.counting.specs.Words.{one, sumOf}
 use Rattle.counting.specs.Lists.{at, count}
+use Rattle.counting.specs.Buffers.{joined, listOf}
+use Rattle.counting.proofs.Sums.{listOf-length}
 use Rattle.division.specs.Shares.{share, less, InShares, divisionTotal}
 
 -- one of two numbers is less, or they are the same
@@ -160,3 +162,16 @@ has-share [] c i t l = absurd (omega arith)
 has-share (a ∷ D) c i zero l = in-head a D c i
 has-share (a ∷ D) c i (suc t) l =
     omega (arith, has-share D (less c a) (in-tail a D c i) t (le-of-suc-le-suc l), share-less c a (at D t) (in-head a D c i))
+
+-- the total of a division with one street more
+pub divisionTotal-last : (v : ℕ → ℕ → ℕ) (D : List ℕ) (b : ℕ) → divisionTotal v (D ++ (b ∷ [])) ≡ divisionTotal v D + v (length D) b
+unfolding divisionTotal
+divisionTotal-last v [] b = omega arith
+divisionTotal-last v (a ∷ D) b = omega (arith, divisionTotal-last (λ s. v (suc s)) D b)
+
+-- the total of a division is the sum over the streets of the score that each gives its site
+pub divisionTotal-sum : (v : ℕ → ℕ → ℕ) (n : ℕ) (g : ℕ → ℕ) → divisionTotal v (listOf n g) ≡ sumOf n (λ s. v s (g s))
+unfolding divisionTotal joined
+divisionTotal-sum v zero g = refl
+divisionTotal-sum v (suc n) g =
+    omega (arith, rw listOf-length at (divisionTotal-last v (listOf n g) (g n)), divisionTotal-sum v n g)

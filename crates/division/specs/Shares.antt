@@ -1,12 +1,12 @@
 -- Divisions and shares, over any value `v street site`. A division is the list of the streets' sites; shares are the list of the numbers of
 -- streets that the sites 1, 2, .., m are to have, 0 for a site that is not chosen. Site 0 has no share.
 -- Assumes nothing.
-use Prim.Native.Nat.{ℕ, zero, suc, _+_, _<_, pred}
+use Prim.Native.Nat.{ℕ, zero, suc, _+_, pred}
 use mathlib.Core.Path.{_≡_}
-use mathlib.Core.Bool.{Bool, cond}
+use mathlib.Core.Bool.{cond}
 use mathlib.Core.List.{List, [], _∷_}
 use lib.Dec.{eqb}
-use lib.ListN.{length, set}
+use lib.ListN.{set}
 use Rattle.counting.specs.Lists.{at, count}
 use Rattle.counting.specs.Buffers.{listOf}
 

@@ -1,13 +1,12 @@
 -- Two values that agree for the n streets and the sites up to m give the same totals and the same greedy plan: what an engine's table needs.
 -- Assumes nothing.
-use mathlib.Core.Path.{_≡_, refl, sym, ap, _∙_}
+use mathlib.Core.Path.{_≡_, refl, ap, _∙_}
 use mathlib.Core.Bool.{true}
 use mathlib.Core.Logic.{⊎-elim}
 use mathlib.Core.List.{List, [], _∷_, _++_}
-use Prim.Native.Nat.{ℕ, zero, suc, _≤_, _<_, max}
-use native.Mathlib.Omega.{arith}
+use Prim.Native.Nat.{ℕ, zero, suc, _≤_, _<_}
 use Rattle.counting.specs.Lists.{has}
-use Rattle.counting.specs.Choice.{greatest, unchosen}
+use Rattle.counting.specs.Choice.{unchosen}
 use Rattle.counting.proofs.Choice.{greatest-le, greatest-same}
 use Rattle.counting.proofs.Membership.{has-head, has-tail, has-last}
 use Rattle.counting.proofs.Sums.{sumOf-same}

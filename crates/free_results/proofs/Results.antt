@@ -2,22 +2,19 @@
 -- Assumes nothing.
 use mathlib.Core.Path.{_≡_, sym, ap, _∙_}
 use mathlib.Core.Bool.{Bool, false}
-use mathlib.Core.List.{List, [], _∷_}
-use Prim.Native.Nat.{ℕ, zero, suc, _+_, _*_, _≤_, _<_}
+use mathlib.Core.List.{List}
+use Prim.Native.Nat.{ℕ, _*_, _≤_, _<_}
 use native.Mathlib.Omega.{arith}
 use native.Mathlib.Decide.{decLt}
-use lib.Dec.{eqb}
 use lib.ListN.{length, getD, take}
 use Rattle.counting.specs.Words.{_when_, sumOf}
 use Rattle.counting.specs.Lists.{at, has}
 use Rattle.counting.specs.Buffers.{listOf}
-use Rattle.counting.specs.Marks.{Marks}
 use Rattle.counting.proofs.Refusals.{first-same}
-use Rattle.counting.proofs.Membership.{cond-at}
 use Rattle.counting.proofs.Sums.{at-past, listOf-same, has-index}
-use Rattle.survey.specs.Rows.{rowOf, rankedPart, listOfStreet, value}
+use Rattle.survey.specs.Rows.{rowOf, listOfStreet, value}
 use Rattle.survey.specs.Accepted.{Accepted}
-use Rattle.values.proofs.Laws.{valued-bound}
+use Rattle.survey.proofs.Places.{ranked-bound, valued-bound}
 use Rattle.free_plan.specs.Greedy.{total, goesTo, chosenAt}
 use Rattle.free_plan.proofs.Valued.{AtMost}
 use Rattle.free_rounds.specs.declared.State.{State}
@@ -27,16 +24,6 @@ use Rattle.free_rounds.proofs.Rounded.{bests-small, total-is}
 -- sites that are each at most m
 pub at-most-list : (m : ℕ) (sites : List ℕ) → ((i : ℕ) → at sites i ≤ m) → AtMost m sites
 at-most-list m sites h a i = let (j, l, e) = has-index a sites i in rw (← e) (h j)
-
--- what bounds a row bounds its ranked part
-ranked-bound : (row : List ℕ) (x : ℕ) → ((j : ℕ) → at row j ≤ x) → (j : ℕ) → at (rankedPart row) j ≤ x
-ranked-bound [] x h = h
-ranked-bound (b ∷ row) x h =
-    cond-at (λ (list : List ℕ). (j : ℕ) → at list j ≤ x) (eqb b 0) (λ e j. omega arith) (λ e. more (ranked-bound row x (λ i. h (suc i))))
-  where
-    more : ((j : ℕ) → at (rankedPart row) j ≤ x) → (j : ℕ) → at (b ∷ rankedPart row) j ≤ x
-    more g zero = h zero
-    more g (suc j) = g j
 
 module _ (n m : ℕ) (scores rows : List ℕ) (ok : Accepted n m scores rows) (state : State) (held : Held (value m scores rows) n state) where
   -- the streets' bests may be summed

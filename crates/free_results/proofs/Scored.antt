@@ -1,72 +1,26 @@
 -- The free division scores what its sites do: a street's score for the site it goes to is its best score among the chosen sites, so the
 -- streets' scores sum to the total of the sites.
 -- Assumes nothing.
-use mathlib.Core.Path.{_≡_, refl, sym, ap, _∙_}
-use mathlib.Core.Bool.{Bool, true, false, true≢false}
+use mathlib.Core.Path.{_≡_, sym, ap, _∙_}
+use mathlib.Core.Bool.{true, false, true≢false}
 use mathlib.Mathlib.Data.Bool.Basic.{dichotomy}
-use mathlib.Core.Logic.{⊎-elim, by-cases}
-use mathlib.Core.List.{List, [], _∷_, _++_}
-use Prim.Native.Nat.{ℕ, zero, suc, _+_, _-_, _≤_, _<_}
-use native.Mathlib.Nat.{le-antisymm, eq-zero-or-pos, eq-or-lt-of-le}
-use native.Mathlib.Decide.{decLt}
+use mathlib.Core.Logic.{⊎-elim}
+use mathlib.Core.List.{List}
+use Prim.Native.Nat.{ℕ, _+_, _≤_, _<_}
+use native.Mathlib.Nat.{le-antisymm, eq-zero-or-pos}
 use native.Mathlib.Omega.{arith}
-use lib.Dec.{eqb}
 use lib.ListN.{length}
-use borrow.Author.Tests.{eqb-true, eq-eqb, ne-eqb}
-use Rattle.counting.specs.Words.{_when_, firstOf, sumOf}
 use Rattle.counting.specs.Lists.{at, has}
-use Rattle.counting.specs.Buffers.{joined, listOf}
-use Rattle.counting.proofs.Refusals.{own-stop, own-pass, when-yes, when-none, when-zero, first-none, first-found}
-use Rattle.counting.proofs.Sums.{listOf-length, sumOf-same, has-at, has-index, at-past}
-use Rattle.survey.specs.Rows.{rowOf, listOfStreet, placeAt, placeIn, scoreAt, value}
+use Rattle.counting.specs.Buffers.{listOf}
+use Rattle.counting.proofs.Refusals.{when-zero, when-some, first-none, first-find}
+use Rattle.counting.proofs.Sums.{sumOf-same, has-at, has-index}
+use Rattle.survey.specs.Rows.{rowOf, listOfStreet, placeIn, scoreAt, value}
 use Rattle.survey.specs.Accepted.{SoundScores}
-use Rattle.values.proofs.Laws.{first-zeros, place-none, score-none, score-next, ranked-sites}
+use Rattle.survey.proofs.Places.{place-none, place-at, place-first, score-none, score-next, scores-fall, ranked-sites}
 use Rattle.free_plan.specs.Greedy.{best, total, chosenAt, goesTo}
 use Rattle.free_plan.proofs.Totals.{best-has, best-le}
 use Rattle.division.specs.Shares.{divisionTotal}
-
--- the first number that is not 0 stands at an index, and before it stand zeros alone
-pub first-find : (n : ℕ) (f : ℕ → ℕ) → 0 < firstOf n f → (i : ℕ) × (i < n) × (f i ≡ firstOf n f) × ((j : ℕ) → j < i → f j ≡ 0)
-unfolding firstOf
-first-find zero f h = absurd (omega arith)
-first-find (suc n) f h =
-    ⊎-elim (λ z. (n, omega arith, own-pass (f n) (firstOf n f) (f n) z refl, first-none n f z))
-    (λ p. let (i, l, e, q) = first-find n f p in (i, omega arith, e ∙ own-stop (firstOf n f) (f n) (λ z. omega arith), q))
-    (eq-zero-or-pos (firstOf n f))
-
--- a number that is above 0 where its test holds is itself, and the test holds
-when-some : (x : ℕ) (t : Bool) → 0 < (x when t) → (t ≡ true) × (x when t ≡ x)
-unfolding _when_
-when-some x true h = (refl, refl)
-when-some x false h = absurd (omega arith)
-
--- a site with a place stands in the list at that place
-pub place-at : (L : List ℕ) (a : ℕ) → 0 < placeIn L a → (j : ℕ) × (j < length L) × (placeIn L a ≡ j + 1) × (at L j ≡ a)
-place-at L a h =
-    let (j, l, e, q) = first-find (length L) (placeAt L a) h in
-    let (t, w) = when-some (j + 1) (eqb (at L j) a) (rw e h) in
-    (j, l, sym e ∙ w, eqb-true (at L j) a t)
-
--- a site has the place where it stands first
-place-first : (L : List ℕ) (i : ℕ) → i < length L → ((j : ℕ) → j < i → at L j ≡ at L i → ⊥) → placeIn L (at L i) ≡ i + 1
-place-first L i l new =
-    let a = at L i in
-    let other : (j : ℕ) → j < i → placeAt L a j ≡ 0 = λ j k. sym (when-none (j + 1) (eqb (at L j) a) (ne-eqb (at L j) a (new j k))) in
-    let own : i + 1 ≡ placeAt L a i = when-yes (i + 1) (eqb a a) (eq-eqb a a refl) in
-    sym (first-found i (length L) (placeAt L a) (i + 1) l (first-zeros i (placeAt L a) other) own (λ z. omega arith))
-
--- the next place has no higher score
-score-falls : (scores : List ℕ) → SoundScores scores → (j : ℕ) → at scores (suc j) ≤ at scores j
-score-falls scores sound j =
-    let back : suc j - 1 ≡ j = omega arith in
-    by-cases (decLt (suc j) (length scores)) (λ l. rw back at (sound .falling (suc j) (omega arith) l))
-    (λ h. omega (arith, at-past scores (suc j) (omega arith)))
-
--- a later place has no higher score
-pub scores-fall : (scores : List ℕ) → SoundScores scores → (i j : ℕ) → i ≤ j → at scores j ≤ at scores i
-scores-fall scores sound i zero l = let e : i ≡ 0 = omega arith in rw e (omega arith)
-scores-fall scores sound i (suc j) l =
-    ⊎-elim (λ e. rw e (omega arith)) (λ k. omega (arith, score-falls scores sound j, scores-fall scores sound i j (omega arith))) (eq-or-lt-of-le l)
+use Rattle.division.proofs.Counts.{divisionTotal-sum}
 
 -- a site that has no place in a street's list scores 0
 unranked : (scores L : List ℕ) (a : ℕ) → placeIn L a ≡ 0 → scoreAt scores (placeIn L a) ≡ 0
@@ -130,19 +84,6 @@ goes-best scores L S sound sites = ⊎-elim none some (eq-zero-or-pos (goesTo (�
         let (i, l, e, before) = first-find (length L) (chosenAt (λ a. has a S) L) p in
         let (h, w) = when-some (at L i) (has (at L i) S) (rw e p) in
         ap score (sym e ∙ w) ∙ first-best L S sites scores sound i l h before
-
--- the total of a division with one street more
-divisionTotal-last : (v : ℕ → ℕ → ℕ) (D : List ℕ) (b : ℕ) → divisionTotal v (D ++ (b ∷ [])) ≡ divisionTotal v D + v (length D) b
-unfolding divisionTotal
-divisionTotal-last v [] b = omega arith
-divisionTotal-last v (a ∷ D) b = omega (arith, divisionTotal-last (λ s. v (suc s)) D b)
-
--- the total of a division is the sum over the streets of the score that each gives its site
-divisionTotal-sum : (v : ℕ → ℕ → ℕ) (n : ℕ) (g : ℕ → ℕ) → divisionTotal v (listOf n g) ≡ sumOf n (λ s. v s (g s))
-unfolding divisionTotal joined
-divisionTotal-sum v zero g = refl
-divisionTotal-sum v (suc n) g =
-    omega (arith, rw listOf-length at (divisionTotal-last v (listOf n g) (g n)), divisionTotal-sum v n g)
 
 -- the streets' scores for the sites they go to sum to the total of the chosen sites
 pub served-total : (n m : ℕ) (scores rows S : List ℕ) → SoundScores scores

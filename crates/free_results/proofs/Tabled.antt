@@ -1,19 +1,19 @@
 -- Laws of the table of values between the survey and the engine: a part of an array of 26,000 that is filled and then lent.
 -- Assumes nothing.
-use mathlib.Core.Path.{_≡_, refl, sym, ap, subst, _∙_}
+use mathlib.Core.Path.{_≡_, sym, ap, subst, _∙_}
 use mathlib.Core.List.{List, _++_}
 use Prim.Native.Nat.{ℕ, _+_, _*_, _/_, _%_, _≤_, _<_}
 use native.Mathlib.Nat.{mul-le-mul, div-add-mod', mod-lt, div-lt-iff-lt-mul}
 use native.Mathlib.Omega.{arith}
 use native.Mathlib.Decide.{decLt}
-use lib.ListN.{length, take, replicate, length-append, length-replicate, length-take, getD-replicate}
+use lib.ListN.{length, take, replicate, length-append, length-replicate, getD-replicate}
 use lib.Seq.{length-take-le, getD-take, take-at}
 use Rattle.counting.specs.Lists.{at}
 use Rattle.counting.proofs.Sums.{at-past}
 use Rattle.survey.specs.Rows.{value}
 use Rattle.survey.specs.Accepted.{Accepted}
 use Rattle.values.specs.Table.{Blank, Valued, valueIn}
-use Rattle.values.proofs.Laws.{valued-bound}
+use Rattle.survey.proofs.Places.{valued-bound}
 use Rattle.free_plan.specs.Greedy.{greedy}
 use Rattle.free_plan.proofs.Valued.{AtMost, best-agree, greedy-agree, greedy-most}
 use Rattle.free_rounds.specs.declared.State.{State}

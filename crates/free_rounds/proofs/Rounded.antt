@@ -1,20 +1,19 @@
 -- Laws of the state: with one site more it holds what it should, and what it chooses is the free plan's choice.
 -- Assumes nothing.
 use mathlib.Core.Path.{_≡_, refl, sym, ap, _∙_}
-use mathlib.Core.Bool.{Bool, true, false, not, _&&_}
+use mathlib.Core.Bool.{Bool, true, not, _&&_}
 use mathlib.Core.List.{List, [], _∷_, _++_}
-use Prim.Native.Nat.{ℕ, zero, suc, _+_, _*_, _≤_, _<_, max}
+use Prim.Native.Nat.{ℕ, _+_, _≤_, _<_, max}
 use native.Mathlib.Numerals.{add-one}
 use native.Mathlib.Omega.{arith}
 use native.Mathlib.Decide.{decLt}
 use lib.Dec.{ltb}
-use lib.ListN.{length, getD, take, drop, set, length-set, length-take, length-append, length-drop, length-replicate, getD-replicate, List·getD-append, replicate}
-use lib.Seq.{take-suc, take-suc-set, getD-take, length-take-le}
+use lib.ListN.{length, take, drop, set, length-set, length-take, length-append, length-drop, length-replicate, getD-replicate, List·getD-append, replicate}
+use lib.Seq.{take-suc-set, getD-take, length-take-le}
 use Rattle.counting.specs.Words.{sumOf}
-use Rattle.counting.specs.Lists.{at, has}
+use Rattle.counting.specs.Lists.{at}
 use Rattle.counting.specs.Choice.{greatest, unchosen}
 use Rattle.counting.specs.Buffers.{Mapped}
-use Rattle.counting.specs.Marks.{Marks}
 use Rattle.counting.proofs.Choice.{greatest-same}
 use Rattle.counting.proofs.Marking.{marks-none, marks-more}
 use Rattle.counting.proofs.Sums.{sumOf-same, at-past}
@@ -100,7 +99,3 @@ total-is v n state h = sumOf-same n _ _ (λ s l. getD-take n (state .bests) s 0 
 -- the same table, with its streets counted another way
 pub table-same : (i n m : ℕ) (values : List ℕ) → i ≡ n → Table n m values → Table i m values
 table-same i n m values e t = rw e t
-
--- a list with one entry more
-pub take-next : (list : List ℕ) (i : ℕ) → i < length list → take (i + 1) list ≡ take i list ++ (at list i ∷ [])
-take-next list i l = rw (add-one, take-suc list i 0 l) refl

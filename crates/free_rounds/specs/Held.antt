@@ -9,7 +9,6 @@ use lib.ListN.{length, getD, take, replicate}
 use Rattle.counting.specs.Words.{sumOf}
 use Rattle.counting.specs.Lists.{at}
 use Rattle.counting.specs.Marks.{Marks}
-use Rattle.values.specs.Table.{valueIn}
 use Rattle.free_plan.specs.Greedy.{best}
 use Rattle.free_rounds.specs.declared.State.{State}
 

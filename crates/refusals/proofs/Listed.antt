@@ -1,35 +1,25 @@
 -- What an accepted call holds: its survey, the number of sites, the list of sites that it was given, and the lengths of the buffers that it
 -- was lent.
 -- Assumes nothing.
-use mathlib.Core.Path.{_≡_, refl, subst}
-use mathlib.Core.Bool.{true, false}
+use mathlib.Core.Path.{_≡_, subst}
+use mathlib.Core.Bool.{true}
 use mathlib.Core.Logic.{by-cases}
 use mathlib.Core.List.{List}
-use Prim.Native.Nat.{ℕ, zero, suc, _≤_, _<_}
+use Prim.Native.Nat.{ℕ, _≤_, _<_}
 use native.Mathlib.Decide.{decLt}
 use native.Mathlib.Omega.{arith}
 use lib.Dec.{lit<}
 use lib.ListN.{length, take}
-use lib.Seq.{take-suc, take-length}
 use Rattle.counting.specs.Words.{_when_, _orElse_}
 use Rattle.counting.specs.Lists.{at, has, distinct}
 use Rattle.counting.specs.Sites.{Sites}
-use Rattle.counting.proofs.Membership.{distinct-last}
+use Rattle.counting.proofs.Membership.{apart}
 use Rattle.counting.proofs.Sums.{at-past, has-index}
 use Rattle.counting.proofs.Refusals.{or-zero, when-zero, within, exact, first-none}
 use Rattle.survey.specs.Refusals.{lengthRefusal, surveyRefusal}
 use Rattle.survey.specs.Accepted.{Accepted}
 use Rattle.survey.proofs.Sound.{accepted, own-accepted, chosen-within}
 use Rattle.refusals.specs.Refusals.{rangeRefusal, rangesRefusal, listRefusal, listTotalRefusal, freeDivisionRefusal, buffersRefusal, freePlanRefusal}
-
--- ---- lists
--- where no number stands before itself, none stands twice
-apart-upto : (S : List ℕ) → ((i : ℕ) → i < length S → has (at S i) (take i S) ≡ false) → (j : ℕ) → j ≤ length S → distinct (take j S) ≡ true
-apart-upto S h zero l = refl
-apart-upto S h (suc j) l = rw (take-suc S j 0 l) (distinct-last (at S j) (take j S) (apart-upto S h j (omega arith)) (h j l))
-
-apart : (S : List ℕ) → ((i : ℕ) → i < length S → has (at S i) (take i S) ≡ false) → distinct S ≡ true
-apart S h = rw take-length at (apart-upto S h (length S) (omega arith))
 
 -- ---- a given list of sites that is not refused: each is one of 1 to m, and none is listed twice
 module _ (m : ℕ) (sites : List ℕ) (e : listRefusal m sites ≡ 0) where

@@ -9,8 +9,8 @@ use native.Mathlib.Nat.{eq-zero-or-pos}
 use native.Mathlib.Omega.{arith}
 use lib.Dec.{ltb, eqb, lit<}
 use lib.ListN.{length, take}
-use borrow.Author.Tests.{ltb-false, lt-ltb, eq-eqb, ne-eqb}
-use Rattle.counting.specs.Words.{_when_, _unless_, _orElse_, firstOf, outside}
+use borrow.Author.Tests.{ltb-false, lt-ltb, ne-eqb}
+use Rattle.counting.specs.Words.{_when_, _orElse_}
 use Rattle.counting.specs.Lists.{at, has}
 use Rattle.counting.proofs.Refusals.{or-zero, when-zero, unless-is, within, exact, first-none}
 use Rattle.survey.specs.Rows.{rowOf}

@@ -1,7 +1,7 @@
 -- What is turned down in a survey, by document 01's numbers. Each definition gives the first number that applies, and 0 where none does.
 -- Assumes nothing.
 use Prim.Native.Nat.{ℕ, _*_, _-_, _%_}
-use mathlib.Core.Bool.{Bool, not, _&&_}
+use mathlib.Core.Bool.{Bool, _&&_}
 use mathlib.Core.List.{List}
 use lib.Dec.{ltb, eqb}
 use lib.ListN.{length, take}

@@ -1,6 +1,6 @@
 -- A survey file's bytes, record by record, as document 01 has them under 'Survey file'.
 -- Assumes nothing.
-use Prim.Native.Nat.{ℕ, suc, _+_, _*_, _/_, _%_}
+use Prim.Native.Nat.{ℕ, suc, _/_, _%_}
 use mathlib.Core.List.{List, [], _∷_, _++_}
 use lib.ListN.{length}
 use Rattle.counting.specs.Lists.{at}

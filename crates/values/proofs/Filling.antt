@@ -15,8 +15,8 @@ use Rattle.survey.specs.Rows.{rankedPart, placeIn, scoreAt, scoreOf, value}
 use Rattle.survey.specs.Accepted.{SoundRow, Accepted}
 use Rattle.survey.proofs.Laws.{ranked-stop, ranked-more, ranked-all, row-within, row-part}
 use Rattle.values.specs.Table.{valueIn, Blank, Valued}
-use Rattle.values.proofs.Parts.{part, put, part-length, part-blank, put-length, put-before, put-in, put-behind}
-use Rattle.values.proofs.Laws.{place-none, place-new, place-old, score-none, score-next}
+use Rattle.counting.proofs.Parts.{part, put, part-length, part-blank, put-length, put-before, put-in, put-behind}
+use Rattle.survey.proofs.Places.{place-none, place-new, place-old, score-none, score-next}
 
 -- ---- one street
 -- the values up to m are the scores that a list gives

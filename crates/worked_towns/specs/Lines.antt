@@ -11,7 +11,7 @@ use Rattle.balanced_plan.specs.Floor.{depth}
 use Rattle.survey.specs.Rows.{scoreOf}
 use Rattle.survey_file.specs.Encode.{encode}
 use Rattle.survey_file.specs.Decode.{fileRefusal, streetsIn, sitesIn, chosenIn, kindIn, scoresIn, scoresPart, rowsIn}
-use Rattle.refusals.specs.Refusals.{checkRefusal, rowScoreRefusal, listTotalRefusal, freeDivisionRefusal, balancedDivisionRefusal, freePlanRefusal, balancedPlanRefusal, floorRefusal, freeHandRefusal, balancedHandRefusal, readRefusal, writeRefusal}
+use Rattle.refusals.specs.Refusals.{checkRefusal, rowScoreRefusal, listTotalRefusal, freeDivisionRefusal, balancedDivisionRefusal, freePlanRefusal, balancedPlanRefusal, floorRefusal, freeHandRefusal, balancedHandRefusal, writeRefusal}
 use Rattle.planner.specs.Plans.{listTotal, freeDivision, freeSites, planTotal, balancedDivision, balancedRounds, balancedSites, planFloor}
 
 -- a survey with the number of sites to choose: n, m, K, scores, rows

@@ -1,10 +1,6 @@
 -- `free_results::divide` meets its contract. Assumes nothing.
 use borrow.Author.Needs.{needs}
-use mathlib.Core.Path.{_≡_, refl, sym, ap, _∙_}
-use Prim.Native.Nat.{ℕ, _≤_}
 use native.Mathlib.Omega.{arith}
-use lib.ListN.{length, take}
-use lib.Seq.{length-take-le}
 use Rattle.free_results.proofs.Results.{total-ready, total-found, serve-ready, served}
 use Rattle.free_results.proofs.divide.Statement.{statement}
 use Rattle.free_results.proofs.divide.Tie as tie

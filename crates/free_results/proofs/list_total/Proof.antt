@@ -1,10 +1,5 @@
 -- `free_results::list_total` meets its contract. Assumes nothing.
-use borrow.Author.Needs.{needs}
-use mathlib.Core.Path.{_≡_, refl, sym, ap, _∙_}
-use Prim.Native.Nat.{ℕ, _≤_}
 use native.Mathlib.Omega.{arith}
-use lib.ListN.{length, take}
-use lib.Seq.{length-take-le}
 use Rattle.free_results.proofs.Results.{total-ready, total-found}
 use Rattle.free_results.proofs.list_total.Statement.{statement}
 use Rattle.free_results.proofs.list_total.Tie as tie

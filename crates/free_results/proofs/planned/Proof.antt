@@ -1,10 +1,7 @@
 -- `free_results::planned` meets its contract. Assumes nothing.
 use borrow.Author.Needs.{needs}
-use mathlib.Core.Path.{_≡_, refl, sym, ap, _∙_}
-use Prim.Native.Nat.{ℕ, _≤_}
+use mathlib.Core.Path.{sym}
 use native.Mathlib.Omega.{arith}
-use lib.ListN.{length, take}
-use lib.Seq.{length-take-le}
 use Rattle.free_results.proofs.Tabled.{table-fits, table-blank, table-room, table-size, table-ready, sites-planned, held-planned}
 use Rattle.free_results.proofs.Results.{at-most-list}
 use Rattle.free_results.proofs.planned.Statement.{statement}

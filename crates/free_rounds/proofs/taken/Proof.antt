@@ -2,12 +2,13 @@
 use borrow.Author.Needs.{needs}
 use mathlib.Core.Path.{_≡_, refl, sym, ap, _∙_}
 use mathlib.Core.List.{List, _∷_, [], _++_}
-use Prim.Native.Nat.{ℕ, _≤_, _-_, _+_, _*_, max}
+use Prim.Native.Nat.{ℕ, _≤_, _-_, _+_}
 use native.Mathlib.Omega.{arith}
 use lib.ListN.{length, take, getD}
 use Rattle.values.specs.Table.{valueIn}
 use Rattle.free_rounds.specs.Held.{Held, sitesOf}
-use Rattle.free_rounds.proofs.Rounded.{start-holds, take-next}
+use Rattle.free_rounds.proofs.Rounded.{start-holds}
+use Rattle.counting.proofs.Sums.{take-next}
 use lib.Seq.{take-all}
 use Rattle.free_rounds.proofs.taken.Statement.{statement}
 use Rattle.free_rounds.proofs.taken.Tie as tie

@@ -1,6 +1,6 @@
 -- `planner::free_division` meets its contract. Assumes nothing.
 use borrow.Author.Needs.{needs}
-use mathlib.Core.Path.{_≡_, sym, _∙_}
+use mathlib.Core.Path.{sym, _∙_}
 use Rattle.planner.proofs.Laws.{answers, told-total, kept-refused, new-accepted}
 use Rattle.refusals.proofs.Listed.{free-division-listed, free-division-fits, list-low}
 use Rattle.planner.proofs.free_division.Statement.{statement}

@@ -1,6 +1,6 @@
 -- `planner::list_total` meets its contract. Assumes nothing.
 use borrow.Author.Needs.{needs}
-use mathlib.Core.Path.{_≡_, sym, _∙_}
+use mathlib.Core.Path.{sym, _∙_}
 use Rattle.planner.proofs.Laws.{answers}
 use Rattle.refusals.proofs.Listed.{list-total-listed, list-low}
 use Rattle.planner.proofs.list_total.Statement.{statement}

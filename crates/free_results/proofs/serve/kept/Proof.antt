@@ -1,5 +1,4 @@
 -- `free_results::serve::kept` meets its contract. Assumes nothing.
-use borrow.Author.Needs.{needs}
 use Rattle.counting.proofs.Refusals.{chain}
 use Rattle.free_results.proofs.serve.kept.Statement.{statement}
 use Rattle.free_results.proofs.serve.kept.Tie as tie

@@ -1,10 +1,9 @@
 -- `free_results::serve::street` meets its contract. Assumes nothing.
 use borrow.Author.Needs.{needs}
-use mathlib.Core.Path.{_≡_, refl, sym, ap, _∙_}
+use mathlib.Core.Path.{ap, _∙_}
 use mathlib.Core.List.{List}
-use Prim.Native.Nat.{ℕ, _≤_, _-_, _+_, _*_, max}
-use native.Mathlib.Omega.{arith}
-use lib.ListN.{length, take, getD}
+use Prim.Native.Nat.{ℕ}
+use lib.ListN.{getD}
 use mathlib.Core.Bool.{false}
 use Rattle.survey.specs.Rows.{rankedPart}
 use Rattle.survey.proofs.Laws.{row-part}

@@ -1,10 +1,9 @@
 -- `free_rounds::State::round` meets its contract. Assumes nothing.
 use borrow.Author.Needs.{needs}
-use mathlib.Core.Path.{_≡_, refl, sym, ap, _∙_}
-use mathlib.Core.List.{List, [], _∷_, _++_}
-use Prim.Native.Nat.{ℕ, _≤_, _-_, _+_, _*_, max}
+use mathlib.Core.Path.{sym, ap, _∙_}
+use mathlib.Core.List.{[], _∷_, _++_}
+use Prim.Native.Nat.{ℕ, _≤_}
 use native.Mathlib.Omega.{arith}
-use lib.ListN.{length, take, drop, getD}
 use lib.Seq.{length-take-le}
 use Rattle.values.specs.Table.{valueIn}
 use Rattle.counting.proofs.Choice.{chosen-le}

@@ -1,10 +1,9 @@
 -- `free_rounds::State::taking` meets its contract. Assumes nothing.
 use borrow.Author.Needs.{needs}
-use mathlib.Core.Path.{_≡_, refl, sym, ap, _∙_}
-use mathlib.Core.List.{List, _++_}
-use Prim.Native.Nat.{ℕ, _≤_, _-_, _+_, _*_, max}
+use mathlib.Core.Path.{refl, sym}
+use mathlib.Core.List.{_++_}
 use native.Mathlib.Omega.{arith}
-use lib.ListN.{length, take, drop, getD}
+use lib.ListN.{drop}
 use Rattle.free_rounds.proofs.Rounded.{held-more, sites-more, table-same}
 use Rattle.values.specs.Table.{valueIn}
 use lib.Seq.{length-take-le}

@@ -1,9 +1,7 @@
 -- `free_rounds::pick::best_site` meets its contract. Assumes nothing.
 use borrow.Author.Needs.{needs}
-use mathlib.Core.Path.{_≡_}
 use Prim.Native.Nat.{_≤_, _-_, _+_}
 use native.Mathlib.Omega.{arith}
-use lib.ListN.{length}
 use Rattle.counting.specs.Lists.{at}
 use Rattle.counting.specs.Choice.{mark}
 use Rattle.counting.proofs.Choice.{Best}

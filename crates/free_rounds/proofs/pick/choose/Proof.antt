@@ -1,11 +1,7 @@
 -- `free_rounds::pick::choose` meets its contract. Assumes nothing.
 use borrow.Author.Needs.{needs}
-use mathlib.Core.Path.{_≡_, refl, sym, ap, _∙_}
-use mathlib.Core.List.{List, [], _∷_, _++_}
-use Prim.Native.Nat.{ℕ, _≤_, _-_, _+_, _*_, max}
-use native.Mathlib.Omega.{arith}
-use lib.ListN.{length, take, drop, getD}
-use lib.Seq.{length-take-le}
+use mathlib.Core.Path.{sym}
+use lib.ListN.{length}
 use Rattle.values.specs.Table.{valueIn}
 use Rattle.free_rounds.proofs.Turns.{sums-blank, sums-room, sums-size, sums-ready, sums-chosen}
 use Rattle.free_rounds.proofs.pick.choose.Statement.{statement}

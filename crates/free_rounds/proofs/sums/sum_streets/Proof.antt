@@ -1,10 +1,9 @@
 -- `free_rounds::sums::sum_streets` meets its contract. Assumes nothing.
 use borrow.Author.Needs.{needs}
-use mathlib.Core.Path.{_≡_, refl, sym, ap, _∙_}
-use mathlib.Core.List.{List}
-use Prim.Native.Nat.{ℕ, _≤_, _-_, _+_, _*_, max}
+use mathlib.Core.Path.{_≡_, refl, _∙_}
+use Prim.Native.Nat.{_≤_, _-_, _+_}
 use native.Mathlib.Omega.{arith}
-use lib.ListN.{length, take, getD}
+use lib.ListN.{length}
 use Rattle.values.specs.Table.{valueIn}
 use Rattle.free_rounds.specs.Held.{Summed}
 use Rattle.free_rounds.proofs.Turns.{summed-none, summed-turn, summed-end, row-ready, row-ends}

@@ -1,5 +1,4 @@
 -- `survey::check::site_refusal` meets its contract. Assumes nothing.
-use borrow.Author.Needs.{needs}
 use Rattle.counting.proofs.Refusals.{chain}
 use Rattle.survey.proofs.check.site_refusal.Statement.{statement}
 use Rattle.survey.proofs.check.site_refusal.Tie as tie

@@ -1,43 +1,25 @@
--- Laws of places in a list and of values: where a site has a place, what a list with one site more gives, and how great a value can be.
+-- Laws of places, scores and values: where a site has a place, what a list with one site more gives, that scores fall, and how great a value can be.
 -- Assumes nothing.
 use mathlib.Core.Path.{_≡_, refl, sym, ap, _∙_}
 use mathlib.Core.Bool.{Bool, true, false, true≢false}
 use mathlib.Core.Logic.{_≢_, ⊎-elim, by-cases}
 use mathlib.Core.List.{List, [], _∷_, _++_}
 use Prim.Native.Nat.{ℕ, zero, suc, _+_, _-_, _≤_, _<_, zero-le}
-use native.Mathlib.Nat.{eq-zero-or-pos}
+use native.Mathlib.Nat.{eq-zero-or-pos, eq-or-lt-of-le}
 use native.Mathlib.Decide.{decLt}
 use native.Mathlib.Omega.{arith}
 use lib.Dec.{eqb}
 use lib.ListN.{length, length-append, List·getD-append}
 use lib.Seq.{getD-at}
-use borrow.Author.Tests.{eq-eqb, ne-eqb, eqb-false}
+use borrow.Author.Tests.{eq-eqb, ne-eqb, eqb-true, eqb-false}
 use Rattle.counting.specs.Words.{_when_, _unless_, _orElse_, firstOf}
 use Rattle.counting.specs.Lists.{at, has}
-use Rattle.counting.proofs.Refusals.{or-pass, or-neither, when-yes, when-none, when-zero, unless-yes, unless-none, first-none, first-same}
-use Rattle.counting.proofs.Membership.{cond-at}
+use Rattle.counting.proofs.Refusals.{or-pass, or-none, or-neither, when-yes, when-none, when-zero, when-some, unless-yes, unless-none, first-none, first-found, first-find, first-same, first-zeros}
+use Rattle.counting.proofs.Membership.{cond-at, has-none}
 use Rattle.counting.proofs.Sums.{has-at, at-past}
 use Rattle.survey.specs.Rows.{rankedPart, placeAt, placeIn, scoreAt, value, rowOf}
 use Rattle.survey.specs.Refusals.{topScore}
 use Rattle.survey.specs.Accepted.{SoundScores, Accepted}
-
--- the first of numbers that are all 0 is 0
-pub first-zeros : (n : ℕ) (f : ℕ → ℕ) → ((i : ℕ) → i < n → f i ≡ 0) → firstOf n f ≡ 0
-unfolding firstOf
-first-zeros zero f h = refl
-first-zeros (suc n) f h = sym (or-pass 0 (firstOf n f) (firstOf n f) (f n) refl (first-zeros n f (λ i l. h i (omega arith))) (sym (h n (omega arith))))
-
--- nothing behind a number
-or-none : (x : ℕ) → x orElse 0 ≡ x
-unfolding _orElse_
-or-none zero = refl
-or-none (suc x) = refl
-
--- a number that stands at no index does not stand in the list
-pub has-none : (a : ℕ) (L : List ℕ) → ((i : ℕ) → i < length L → eqb (at L i) a ≡ false) → has a L ≡ false
-has-none a [] h = refl
-has-none a (b ∷ L) h =
-    or-neither (eqb a b) (has a L) (ne-eqb a b (λ e. eqb-false b a (h 0 (omega arith)) (sym e))) (has-none a L (λ i l. h (suc i) (omega arith)))
 
 -- a site that does not stand in a list has no place there
 pub place-none : (L : List ℕ) (a : ℕ) → has a L ≡ false → placeIn L a ≡ 0
@@ -102,6 +84,44 @@ score-bound scores place sound = go (eqb place 0)
     go : (t : Bool) → (at scores (place - 1) unless t) ≤ topScore
     go true = zero-le
     go false = most (place - 1)
+
+-- a site with a place stands in the list at that place
+pub place-at : (L : List ℕ) (a : ℕ) → 0 < placeIn L a → (j : ℕ) × (j < length L) × (placeIn L a ≡ j + 1) × (at L j ≡ a)
+place-at L a h =
+    let (j, l, e, q) = first-find (length L) (placeAt L a) h in
+    let (t, w) = when-some (j + 1) (eqb (at L j) a) (rw e h) in
+    (j, l, sym e ∙ w, eqb-true (at L j) a t)
+
+-- a site has the place where it stands first
+pub place-first : (L : List ℕ) (i : ℕ) → i < length L → ((j : ℕ) → j < i → at L j ≡ at L i → ⊥) → placeIn L (at L i) ≡ i + 1
+place-first L i l new =
+    let a = at L i in
+    let other : (j : ℕ) → j < i → placeAt L a j ≡ 0 = λ j k. sym (when-none (j + 1) (eqb (at L j) a) (ne-eqb (at L j) a (new j k))) in
+    let own : i + 1 ≡ placeAt L a i = when-yes (i + 1) (eqb a a) (eq-eqb a a refl) in
+    sym (first-found i (length L) (placeAt L a) (i + 1) l (first-zeros i (placeAt L a) other) own (λ z. omega arith))
+
+-- the next place has no higher score
+score-falls : (scores : List ℕ) → SoundScores scores → (j : ℕ) → at scores (suc j) ≤ at scores j
+score-falls scores sound j =
+    let back : suc j - 1 ≡ j = omega arith in
+    by-cases (decLt (suc j) (length scores)) (λ l. rw back at (sound .falling (suc j) (omega arith) l))
+    (λ h. omega (arith, at-past scores (suc j) (omega arith)))
+
+-- a later place has no higher score
+pub scores-fall : (scores : List ℕ) → SoundScores scores → (i j : ℕ) → i ≤ j → at scores j ≤ at scores i
+scores-fall scores sound i zero l = let e : i ≡ 0 = omega arith in rw e (omega arith)
+scores-fall scores sound i (suc j) l =
+    ⊎-elim (λ e. rw e (omega arith)) (λ k. omega (arith, score-falls scores sound j, scores-fall scores sound i j (omega arith))) (eq-or-lt-of-le l)
+
+-- what bounds a row bounds its ranked part
+pub ranked-bound : (row : List ℕ) (x : ℕ) → ((j : ℕ) → at row j ≤ x) → (j : ℕ) → at (rankedPart row) j ≤ x
+ranked-bound [] x h = h
+ranked-bound (b ∷ row) x h =
+    cond-at (λ (list : List ℕ). (j : ℕ) → at list j ≤ x) (eqb b 0) (λ e j. omega arith) (λ e. more (ranked-bound row x (λ i. h (suc i))))
+  where
+    more : ((j : ℕ) → at (rankedPart row) j ≤ x) → (j : ℕ) → at (b ∷ rankedPart row) j ≤ x
+    more g zero = h zero
+    more g (suc j) = g j
 
 -- the ranked part holds no zero
 pub ranked-sites : (row : List ℕ) → has 0 (rankedPart row) ≡ false
