@@ -5,3 +5,4 @@ pub mod Sums
 pub mod Marking
 pub mod Filling
 pub mod Parts
+pub mod Tables

@@ -1,6 +1,6 @@
 -- The words for lists of sites and of streets.
 -- Assumes nothing.
-use Prim.Native.Nat.{ℕ, _+_}
+use Prim.Native.Nat.{ℕ, _+_, _*_}
 use mathlib.Core.Bool.{Bool, true, false, not, _&&_, _||_}
 use mathlib.Core.List.{List, [], _∷_}
 use lib.Dec.{eqb}
@@ -10,6 +10,10 @@ use Rattle.counting.specs.Words.{one}
 -- what stands at an index, counted from 0
 abbrev pub at : List ℕ → ℕ → ℕ
 at list i = getD list i 0
+
+-- what stands in a row and a column of a table of a width
+abbrev pub cell : List ℕ → ℕ → ℕ → ℕ → ℕ
+cell table width row column = at table (row * width + column)
 
 -- whether a number stands in a list
 abbrev pub has : ℕ → List ℕ → Bool

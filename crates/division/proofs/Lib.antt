@@ -4,3 +4,4 @@ pub mod Shared
 pub mod Dual
 pub mod Chain
 pub mod Ties
+pub mod Towns

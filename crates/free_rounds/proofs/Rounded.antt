@@ -20,7 +20,8 @@ use Rattle.counting.proofs.Sums.{sumOf-same, at-past}
 use Rattle.free_plan.specs.Greedy.{best, total, totalWith, pick}
 use Rattle.free_plan.proofs.Totals.{best-append, best-le}
 use Rattle.free_rounds.specs.declared.State.{State}
-use Rattle.free_rounds.specs.Held.{Held, Table, Scores, sitesOf, emptyState, unflagged}
+use Rattle.values.specs.Table.{Table}
+use Rattle.free_rounds.specs.Held.{Held, Scores, sitesOf, emptyState, unflagged}
 
 -- the empty state holds nothing
 pub held-none : (v : ℕ → ℕ → ℕ) (n : ℕ) → Held v n emptyState

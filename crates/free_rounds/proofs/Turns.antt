@@ -19,9 +19,10 @@ use Rattle.counting.specs.Buffers.{Mapped}
 use Rattle.counting.proofs.Choice.{Best, best-up, best-keep, best-start, best-done, greatest-same}
 use Rattle.counting.proofs.Sums.{at-past}
 use Rattle.survey.specs.Rows.{rowOf}
-use Rattle.survey.proofs.Laws.{row-within, row-part}
-use Rattle.values.specs.Table.{valueIn}
-use Rattle.free_rounds.specs.Held.{Table, Row, Scores, Zeros, Summed, Better, unflagged}
+use Rattle.counting.proofs.Tables.{row-within}
+use Rattle.survey.proofs.Laws.{row-part}
+use Rattle.values.specs.Table.{valueIn, Table}
+use Rattle.free_rounds.specs.Held.{Row, Scores, Zeros, Summed, Better, unflagged}
 
 -- ---- the choice: one site more is looked at
 pub better-turn : {f : ℕ → ℕ} {i b y x c z : ℕ} → Best f i b y → x ≡ f (i + 1) → Better b y (i + 1) x c z → Best f (i + 1) c z
@@ -51,9 +52,6 @@ pub marks-end : (sums : List ℕ) (flags : List Bool) (i m b x : ℕ) → m ≤ 
 marks-end sums flags i m b x a l s = best-done (unflagged flags) (at sums) (rw (le-antisymm l a) at s)
 
 -- ---- a street's row of the table
-pub in-rows : (n m s a : ℕ) → s < n → a ≤ m → s * (m + 1) + a < n * (m + 1)
-in-rows n m s a l h = omega (arith, row-within n (m + 1) s l)
-
 pub row-at : (values : List ℕ) (m s a : ℕ) → a ≤ m → at (rowOf (m + 1) values s) a ≡ valueIn values m s a
 row-at values m s a l = getD-take (m + 1) (drop (s * (m + 1)) values) a 0 (omega arith) ∙ getD-drop (s * (m + 1)) values a 0
 

@@ -20,13 +20,6 @@ sitesOf state = take (state .count) (state .chosen)
 abbrev pub emptyState : State
 emptyState = record { chosen = replicate 64 0; count = 0; marks = replicate 256 false; bests = replicate 400 0 }
 
--- a table of values of n streets and m sites, each at most 99,000
-pub record Table (n m : ℕ) (values : List ℕ) : Type 0 where
-  pub few-streets : n ≤ 400
-  pub few-sites : m ≤ 64
-  pub size : length values ≡ n * (m + 1)
-  pub small : (i : ℕ) → at values i ≤ 99000
-
 -- the state holds the flags of its sites, and for each street the best score that they give it
 pub record Held (v : ℕ → ℕ → ℕ) (n : ℕ) (state : State) : Type 0 where
   pub chosen-size : length (state .chosen) ≡ 64

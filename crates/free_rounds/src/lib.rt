@@ -4,9 +4,9 @@ ghost use mathlib.Core.List.{_∷_, [], _++_};
 ghost use Prim.Native.Nat.{ℕ, _+_, _*_, _≤_, _<_, max};
 ghost use lib.ListN.{length};
 ghost use Rattle.counting.specs.Lists.{at};
-ghost use Rattle.values.specs.Table.{valueIn};
+ghost use Rattle.values.specs.Table.{valueIn, Table};
 ghost use Rattle.free_plan.specs.Greedy.{pick, greedy};
-ghost use Rattle.free_rounds.specs.Held.{Held, Table, sitesOf, emptyState};
+ghost use Rattle.free_rounds.specs.Held.{Held, sitesOf, emptyState};
 
 pub mod pick;
 pub mod sums;

@@ -6,8 +6,8 @@ ghost use lib.ListN.{length};
 ghost use Rattle.counting.specs.Words.{sumOf, _unless_};
 ghost use Rattle.counting.specs.Lists.{at};
 ghost use Rattle.counting.specs.Choice.{greatest};
-ghost use Rattle.values.specs.Table.{valueIn};
-ghost use Rattle.free_rounds.specs.Held.{Table, Scores, unflagged, Better};
+ghost use Rattle.values.specs.Table.{valueIn, Table};
+ghost use Rattle.free_rounds.specs.Held.{Scores, unflagged, Better};
 
 // The best site so far, and its mark; site 0 while there is none.
 pub struct Found {

@@ -5,8 +5,8 @@ ghost use lib.ListN.{length};
 ghost use Rattle.counting.specs.Words.{sumOf};
 ghost use Rattle.counting.specs.Lists.{at};
 ghost use Rattle.counting.specs.Buffers.{Mapped};
-ghost use Rattle.values.specs.Table.{valueIn};
-ghost use Rattle.free_rounds.specs.Held.{Row, Table, Scores, Zeros, Summed};
+ghost use Rattle.values.specs.Table.{valueIn, Table};
+ghost use Rattle.free_rounds.specs.Held.{Row, Scores, Zeros, Summed};
 
 // The greater of two.
 fn greater(x: u32, y: u32) -> u32

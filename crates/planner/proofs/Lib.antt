@@ -1,2 +1,3 @@
 pub mod Laws
 pub mod Freely
+pub mod Evenly

@@ -4,7 +4,9 @@ use mathlib.Core.Path.{_≡_}
 use mathlib.Core.List.{List}
 use Prim.Native.Nat.{ℕ, _-_, _*_, _^_, _≤_}
 use Rattle.counting.specs.Sites.{Plan}
-use Rattle.planner.specs.Plans.{listTotal, planTotal}
+use Rattle.division.specs.Shares.{InShares}
+use Rattle.division.specs.Divide.{First}
+use Rattle.planner.specs.Plans.{listTotal, planTotal, sharesFor}
 
 -- a free plan of k sites with the total that it reports
 pub record GoodFree (n m k : ℕ) (scores rows division chosen : List ℕ) (reported : ℕ) : Type 0 where
@@ -16,3 +18,14 @@ pub record GoodFree (n m k : ℕ) (scores rows division chosen : List ℕ) (repo
   -- no choice of k sites is better by more than the bound says: K ^ K * (T - S) ≤ (K - 1) ^ K * T
   pub bound : (other : List ℕ) → Plan m k other
       → k ^ k * (listTotal n m scores rows other - reported) ≤ (k - 1) ^ k * listTotal n m scores rows other
+
+-- a balanced division over a list of sites with the total that it reports
+pub record BestDivision (n m : ℕ) (scores rows sites division : List ℕ) (reported : ℕ) : Type 0 where
+  -- each listed site has its share of the streets, and no other site has a street
+  pub in-shares : InShares division (sharesFor n m sites)
+  -- the total is the sum of the scores that the streets give their sites
+  pub of-streets : reported ≡ planTotal m scores rows division
+  -- every other division in the same shares totals at most as much
+  pub most : (other : List ℕ) → InShares other (sharesFor n m sites) → planTotal m scores rows other ≤ reported
+  -- of those that total as much it is the first by street and site number
+  pub first : (other : List ℕ) → InShares other (sharesFor n m sites) → planTotal m scores rows other ≡ reported → First division other

@@ -4,9 +4,9 @@ ghost use mathlib.Core.Path.{_≡_};
 ghost use mathlib.Core.Bool.{true};
 ghost use Rattle.survey.specs.Rows.{rankedPart, scoreOf};
 ghost use Rattle.counting.specs.Buffers.{after};
-ghost use Rattle.refusals.specs.Refusals.{checkRefusal, rowScoreRefusal, listTotalRefusal, freeDivisionRefusal, freePlanRefusal};
-ghost use Rattle.planner.specs.Plans.{listTotal, freeDivision, freeSites};
-ghost use Rattle.planner.specs.Good.{GoodFree};
+ghost use Rattle.refusals.specs.Refusals.{checkRefusal, rowScoreRefusal, listTotalRefusal, freeDivisionRefusal, balancedDivisionRefusal, freePlanRefusal};
+ghost use Rattle.planner.specs.Plans.{listTotal, freeDivision, freeSites, planTotal, balancedDivision};
+ghost use Rattle.planner.specs.Good.{GoodFree, BestDivision};
 ghost use Rattle.planner.specs.Answers.{Answered, Told, checkedNumber, checkedAccepts, number, accepts, total};
 
 // The answer of a check.
@@ -78,6 +78,27 @@ pub fn free_division(
         return Answer::Refused(x);
     }
     Answer::Total(free_results::divide(n, m, scores, rows, sites, division))
+}
+
+// The best balanced division over a list of sites, into a buffer of n bytes: each site gets the same number of streets. Refuses with 1, 2, 3, 5,
+// 6, 8, 9, 10, 11, 17 or 20.
+pub fn balanced_division(
+    n: usize,
+    m: usize,
+    scores: &[u16],
+    rows: &[u8],
+    sites: &[u8],
+    division: &mut [u8],
+) -> Answer
+    ensures answer { λ r. ⌜ Told (number r) (accepts r) (total r) (balancedDivisionRefusal n m (now (scores .entry)) (now (rows .entry)) (now (sites .entry)) (now (division .entry))) (planTotal m (now (scores .entry)) (now (rows .entry)) (balancedDivision n m (now (scores .entry)) (now (rows .entry)) (now (sites .entry)))) ⌝ }
+    ensures division { λ _. ⌜ now (division .exit) ≡ after (balancedDivisionRefusal n m (now (scores .entry)) (now (rows .entry)) (now (sites .entry)) (now (division .entry))) (balancedDivision n m (now (scores .entry)) (now (rows .entry)) (now (sites .entry))) (now (division .entry)) ⌝ }
+    ensures best { λ r. ⌜ (accepts r ≡ true → BestDivision n m (now (scores .entry)) (now (rows .entry)) (now (sites .entry)) (now (division .exit)) (total r)) ⌝ }
+{
+    let x = refusals::balanced_division_refusal(n, m, scores, rows, sites, division);
+    if x != 0 {
+        return Answer::Refused(x);
+    }
+    Answer::Total(balanced_results::divide(n, m, scores, rows, sites, division))
 }
 
 // The free plan of k sites, into buffers of n and of k bytes. Refuses with 1, 2, 3, 6, 8, 9, 10 or 11.

@@ -1,11 +1,12 @@
--- What an accepted call holds: its survey, the number of sites, the list of sites that it was given, and the lengths of the buffers that it
--- was lent.
+-- What an accepted call holds: its survey, the number of sites, the list of sites that it was given, equal shares, and the lengths of the
+-- buffers that it was lent.
 -- Assumes nothing.
 use mathlib.Core.Path.{_≡_, subst}
 use mathlib.Core.Bool.{true}
 use mathlib.Core.Logic.{by-cases}
 use mathlib.Core.List.{List}
-use Prim.Native.Nat.{ℕ, _≤_, _<_}
+use Prim.Native.Nat.{ℕ, _*_, _/_, _%_, _≤_, _<_}
+use native.Mathlib.Nat.{div-add-mod}
 use native.Mathlib.Decide.{decLt}
 use native.Mathlib.Omega.{arith}
 use lib.Dec.{lit<}
@@ -16,10 +17,10 @@ use Rattle.counting.specs.Sites.{Sites}
 use Rattle.counting.proofs.Membership.{apart}
 use Rattle.counting.proofs.Sums.{at-past, has-index}
 use Rattle.counting.proofs.Refusals.{or-zero, when-zero, within, exact, first-none}
-use Rattle.survey.specs.Refusals.{lengthRefusal, surveyRefusal}
+use Rattle.survey.specs.Refusals.{shareRefusal, lengthRefusal, surveyRefusal}
 use Rattle.survey.specs.Accepted.{Accepted}
 use Rattle.survey.proofs.Sound.{accepted, own-accepted, chosen-within}
-use Rattle.refusals.specs.Refusals.{rangeRefusal, rangesRefusal, listRefusal, listTotalRefusal, freeDivisionRefusal, buffersRefusal, freePlanRefusal}
+use Rattle.refusals.specs.Refusals.{rangeRefusal, rangesRefusal, listRefusal, listTotalRefusal, freeDivisionRefusal, balancedDivisionRefusal, buffersRefusal, freePlanRefusal}
 
 -- ---- a given list of sites that is not refused: each is one of 1 to m, and none is listed twice
 module _ (m : ℕ) (sites : List ℕ) (e : listRefusal m sites ≡ 0) where
@@ -56,6 +57,10 @@ called n m k own scores rows e =
 pub fits : (given due : ℕ) → lengthRefusal given due ≡ 0 → given ≡ due
 fits given due = exact 6 given due (lit< tt)
 
+-- a number of sites that is not refused divides the streets into equal shares
+even : (n k : ℕ) → shareRefusal n k ≡ 0 → k * (n / k) ≡ n
+even n k e = omega (arith, exact 5 (n % k) 0 (lit< tt) e, div-add-mod n k)
+
 pub buffers-fit : (n k : ℕ) (division chosen : List ℕ) → buffersRefusal n k division chosen ≡ 0 → (length division ≡ n) × (length chosen ≡ k)
 buffers-fit n k division chosen e =
     let (d, c) = or-zero (lengthRefusal (length division) n) _ e in
@@ -82,6 +87,23 @@ module _ (n m : ℕ) (scores rows sites : List ℕ) where
 
     pub free-division-fits : length division ≡ n
     free-division-fits = fits (length division) n (listed-own n m _ scores rows sites e)
+
+  module _ (division : List ℕ) (e : balancedDivisionRefusal n m scores rows sites division ≡ 0) where
+    -- a balanced division has a sound survey and a list that is not refused
+    pub balanced-division-listed : Listed n m scores rows sites
+    balanced-division-listed = listed n m _ scores rows sites e
+
+    -- neither 5 nor 6 applies
+    balanced-division-own : (shareRefusal n (length sites) ≡ 0) × (lengthRefusal (length division) n ≡ 0)
+    balanced-division-own = or-zero (shareRefusal n (length sites)) (lengthRefusal (length division) n) (listed-own n m _ scores rows sites e)
+
+    -- its sites have equal shares, which make up all streets
+    pub balanced-division-even : length sites * (n / length sites) ≡ n
+    balanced-division-even = even n (length sites) (balanced-division-own .0)
+
+    -- its buffer has a place for each street
+    pub balanced-division-fits : length division ≡ n
+    balanced-division-fits = fits (length division) n (balanced-division-own .1)
 
 module _ (n m k : ℕ) (scores rows division chosen : List ℕ) (e : freePlanRefusal n m k scores rows division chosen ≡ 0) where
   pub free-plan-called : Called n m k scores rows

@@ -2,10 +2,11 @@
 use survey::Survey;
 use survey::check;
 ghost use mathlib.Core.Path.{_≡_};
+ghost use Prim.Native.Nat.{_%_};
 ghost use lib.ListN.{length};
 ghost use Rattle.counting.specs.Words.{_when_, _orElse_};
-ghost use Rattle.survey.specs.Refusals.{lengthRefusal, surveyRefusal};
-ghost use Rattle.refusals.specs.Refusals.{rangeRefusal, rowScoreRefusal, rangesRefusal, twiceRefusal, listRefusal, listTotalRefusal, freeDivisionRefusal, buffersRefusal, freePlanRefusal};
+ghost use Rattle.survey.specs.Refusals.{shareRefusal, lengthRefusal, surveyRefusal};
+ghost use Rattle.refusals.specs.Refusals.{rangeRefusal, rowScoreRefusal, rangesRefusal, twiceRefusal, listRefusal, listTotalRefusal, freeDivisionRefusal, balancedDivisionRefusal, buffersRefusal, freePlanRefusal};
 
 // 6: a lent buffer of other than its exact length.
 fn length_refusal(given: usize, due: usize) -> u8
@@ -137,6 +138,52 @@ pub fn free_division_refusal(
     ensures { λ r. ⌜ r ≡ freeDivisionRefusal n m (now (scores .entry)) (now (rows .entry)) (now (sites .entry)) (now (division .entry)) ⌝ }
 {
     let own = length_refusal(division.len(), n);
+    listed_refusal(n, m, own, scores, rows, sites)
+}
+
+// What is over where n is divided by k; by 0 that is all of n, as in the definitions.
+fn remainder(n: usize, k: usize) -> usize
+    ensures { λ r. ⌜ r ≡ n % k ⌝ }
+{
+    if k == 0 {
+        return n;
+    }
+    n % k
+}
+
+// 5: the number of sites does not divide the number of streets.
+fn share_refusal(n: usize, k: usize) -> u8
+    ensures { λ r. ⌜ r ≡ shareRefusal n k ⌝ }
+{
+    if remainder(n, k) != 0 {
+        return 5;
+    }
+    0
+}
+
+// What a balanced division is tried for besides: 5, then 6 for its buffer.
+fn balance_refusal(n: usize, k: usize, given: usize) -> u8
+    ensures { λ r. ⌜ r ≡ shareRefusal n k orElse lengthRefusal given n ⌝ }
+{
+    let r = share_refusal(n, k);
+    if r != 0 {
+        return r;
+    }
+    length_refusal(given, n)
+}
+
+// A balanced division over a list of sites.
+pub fn balanced_division_refusal(
+    n: usize,
+    m: usize,
+    scores: &[u16],
+    rows: &[u8],
+    sites: &[u8],
+    division: &[u8],
+) -> u8
+    ensures { λ r. ⌜ r ≡ balancedDivisionRefusal n m (now (scores .entry)) (now (rows .entry)) (now (sites .entry)) (now (division .entry)) ⌝ }
+{
+    let own = balance_refusal(n, sites.len(), division.len());
     listed_refusal(n, m, own, scores, rows, sites)
 }
 

@@ -4,7 +4,7 @@ use mathlib.Core.Path.{_≡_, refl, sym, ap, _∙_}
 use mathlib.Core.Bool.{Bool, true, false}
 use mathlib.Core.List.{List, [], _∷_, _++_, append-nil}
 use Prim.Native.Nat.{ℕ, suc, _+_, _-_, _*_, _≤_, _<_}
-use native.Mathlib.Nat.{mul-le-mul-right, suc-mul, add-sub-cancel-left}
+use native.Mathlib.Nat.{add-sub-cancel-left}
 use native.Mathlib.Numerals.{add-one}
 use native.Mathlib.Omega.{arith}
 use lib.Dec.{eqb, lit<}
@@ -49,9 +49,6 @@ byte-is m row seen j r h l e =
 -- ---- parts of the flat buffer
 pub row-part : (m : ℕ) (rows : List ℕ) (i : ℕ) → take (i * m + m - i * m) (drop (i * m) rows) ≡ rowOf m rows i
 row-part m rows i = ap (λ (z : ℕ). take z (drop (i * m) rows)) (add-sub-cancel-left (i * m) m)
-
-pub row-within : (n m i : ℕ) → i < n → i * m + m ≤ n * m
-row-within n m i l = rw suc-mul at (mul-le-mul-right m l)
 
 -- a place past the scores scores 0
 pub past-score : (scores : List ℕ) (place : ℕ) → length scores < place → 0 ≡ at scores (place - 1)

@@ -13,7 +13,8 @@ use lib.Seq.{length-take-le, take-suc, take-length, getD-set-same, getD-set-othe
 use Rattle.counting.specs.Lists.{at, has}
 use Rattle.survey.specs.Rows.{rankedPart, placeIn, scoreAt, scoreOf, value}
 use Rattle.survey.specs.Accepted.{SoundRow, Accepted}
-use Rattle.survey.proofs.Laws.{ranked-stop, ranked-more, ranked-all, row-within, row-part}
+use Rattle.counting.proofs.Tables.{row-within}
+use Rattle.survey.proofs.Laws.{ranked-stop, ranked-more, ranked-all, row-part}
 use Rattle.values.specs.Table.{valueIn, Blank, Valued}
 use Rattle.counting.proofs.Parts.{part, put, part-length, part-blank, put-length, put-before, put-in, put-behind}
 use Rattle.survey.proofs.Places.{place-none, place-new, place-old, score-none, score-next}

@@ -4,11 +4,11 @@ use Prim.Native.Nat.{ℕ, _+_, _*_, _≤_, _<_}
 use mathlib.Core.Path.{_≡_}
 use mathlib.Core.List.{List}
 use lib.ListN.{length}
-use Rattle.counting.specs.Lists.{at}
+use Rattle.counting.specs.Lists.{at, cell}
 
 -- the value of the site a for the street s, in rows of m + 1 values
 abbrev pub valueIn : List ℕ → ℕ → ℕ → ℕ → ℕ
-valueIn values m s a = at values (s * (m + 1) + a)
+valueIn values m = cell values (m + 1)
 
 -- a table before it is filled: of the right length, and all 0
 pub record Blank (n m : ℕ) (values : List ℕ) : Type 0 where
@@ -19,3 +19,10 @@ pub record Blank (n m : ℕ) (values : List ℕ) : Type 0 where
 pub record Valued (v : ℕ → ℕ → ℕ) (n m : ℕ) (values : List ℕ) : Type 0 where
   pub size : length values ≡ n * (m + 1)
   pub right : (s a : ℕ) → s < n → a ≤ m → valueIn values m s a ≡ v s a
+
+-- a table of values of n streets and m sites, each at most 99,000
+pub record Table (n m : ℕ) (values : List ℕ) : Type 0 where
+  pub few-streets : n ≤ 400
+  pub few-sites : m ≤ 64
+  pub size : length values ≡ n * (m + 1)
+  pub small : (i : ℕ) → at values i ≤ 99000

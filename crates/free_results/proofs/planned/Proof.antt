@@ -2,7 +2,8 @@
 use borrow.Author.Needs.{needs}
 use mathlib.Core.Path.{sym}
 use native.Mathlib.Omega.{arith}
-use Rattle.free_results.proofs.Tabled.{table-fits, table-blank, table-room, table-size, table-ready, sites-planned, held-planned}
+use Rattle.values.proofs.Tabled.{table-fits, table-blank, table-room, table-size, table-ready}
+use Rattle.free_results.proofs.Tabled.{sites-planned, held-planned}
 use Rattle.free_results.proofs.Results.{at-most-list}
 use Rattle.free_results.proofs.planned.Statement.{statement}
 use Rattle.free_results.proofs.planned.Tie as tie

@@ -3,7 +3,7 @@ use borrow.Author.Needs.{needs}
 use Prim.Native.Nat.{_+_, _*_, _-_, _≤_}
 use native.Mathlib.Omega.{arith}
 use Rattle.survey.specs.Rows.{value}
-use Rattle.survey.proofs.Laws.{row-within}
+use Rattle.counting.proofs.Tables.{row-within}
 use Rattle.values.proofs.Filling.{Filled, filled-start, filled-all, street-sound, street-sized, street-blank, street-filled}
 use Rattle.values.proofs.fill_values.Statement.{statement}
 use Rattle.values.proofs.fill_values.Tie as tie

@@ -8,7 +8,7 @@ use mathlib.Core.Bool.{false}
 use Rattle.counting.specs.Buffers.{Mapped}
 use Rattle.counting.proofs.Filling.{mapped-none, mapped-more, mapped-end, mapped-listOf}
 use Rattle.survey.specs.Rows.{listOfStreet}
-use Rattle.survey.proofs.Laws.{row-within}
+use Rattle.counting.proofs.Tables.{row-within}
 use Rattle.free_plan.specs.Greedy.{goesTo}
 use Rattle.free_results.proofs.serve.serve.Statement.{statement}
 use Rattle.free_results.proofs.serve.serve.Tie as tie

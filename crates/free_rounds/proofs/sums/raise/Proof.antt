@@ -1,13 +1,13 @@
 -- `free_rounds::sums::raise` meets its contract. Assumes nothing.
 use borrow.Author.Needs.{needs}
 use mathlib.Core.Path.{_≡_, refl, ap, _∙_}
-use Prim.Native.Nat.{ℕ, _≤_, _-_, max}
+use Prim.Native.Nat.{ℕ, _+_, _≤_, _-_, max}
 use native.Mathlib.Omega.{arith}
 use lib.ListN.{length}
 use Rattle.counting.specs.Buffers.{Mapped}
 use Rattle.counting.proofs.Filling.{mapped-none, mapped-more, mapped-end}
 use Rattle.counting.specs.Lists.{at}
-use Rattle.free_rounds.proofs.Turns.{in-rows}
+use Rattle.counting.proofs.Tables.{in-rows}
 use Rattle.values.specs.Table.{valueIn}
 use Rattle.free_rounds.proofs.sums.raise.Statement.{statement}
 use Rattle.free_rounds.proofs.sums.raise.Tie as tie
@@ -31,7 +31,7 @@ value-requires : tie.Need-value-requires Inv-loop μ-loop
 value-requires c κs =
     let a = c .before .before .before .before .before .args in
     let p = c .before .before .before .before .before .pre in
-    (omega (arith, in-rows (length (a .bests .now)) (a .m) (c .before .before .loop .s) (a .a) (omega arith) (p .1), p .0 .size), p .0 .few-sites)
+    (omega (arith, in-rows (c .before .before .loop .s) (length (a .bests .now)) (a .m + 1) (a .a) (omega arith) (omega (arith, p .1)), p .0 .size), p .0 .few-sites)
 
 greater-requires : tie.Need-greater-requires Inv-loop μ-loop
 greater-requires c κs = search needs

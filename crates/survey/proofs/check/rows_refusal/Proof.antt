@@ -6,7 +6,7 @@ use native.Mathlib.Omega.{arith}
 use Rattle.counting.specs.Words.{firstOf}
 use Rattle.counting.proofs.Refusals.{loop}
 use Rattle.survey.specs.Refusals.{streetRefusal}
-use Rattle.survey.proofs.Laws.{row-within}
+use Rattle.counting.proofs.Tables.{row-within}
 use Rattle.survey.proofs.check.rows_refusal.Statement.{statement}
 use Rattle.survey.proofs.check.rows_refusal.Tie as tie
 

@@ -1,0 +1,62 @@
+// From an accepted survey to the best balanced division over a list of sites: the table is filled, the shares are made, a first division in
+// them is found, and it becomes the best one.
+ghost use mathlib.Core.Path.{_≡_};
+ghost use Prim.Native.Nat.{ℕ, _+_, _/_};
+ghost use lib.ListN.{length};
+ghost use Rattle.counting.specs.Lists.{at, cell};
+ghost use Rattle.survey.specs.Rows.{value};
+ghost use Rattle.survey.specs.Accepted.{Accepted};
+ghost use Rattle.values.specs.Table.{Table};
+ghost use Rattle.division.specs.Shares.{divisionTotal, sharesOf};
+ghost use Rattle.division.specs.Divide.{divide};
+ghost use Rattle.balanced_results.specs.Shareable.{Shareable};
+
+// The best division by a table of values, with buffers for the shares and for what is left of them.
+fn divide_table(
+    values: &[u32],
+    m: usize,
+    sites: &[u8],
+    division: &mut [u8],
+    shares: &mut [u16],
+    left: &mut [u16],
+) -> u32
+    requires { ⌜ Table (length (now division)) m (now values) × Shareable (length (now division)) m (now sites) ⌝ }
+    requires { ⌜ (length (now shares) ≡ m + 1) × (length (now left) ≡ m + 1) × ((a : ℕ) → at (now shares) a ≡ 0) ⌝ }
+    ensures total { λ r. ⌜ r ≡ divisionTotal (cell (now (values .entry)) (m + 1)) (divide (cell (now (values .entry)) (m + 1)) (length (now (division .entry))) (sharesOf (λ i. length (now (division .entry)) / length (now (sites .entry))) (now (sites .entry)) m)) ⌝ }
+    ensures division { λ _. ⌜ now (division .exit) ≡ divide (cell (now (values .entry)) (m + 1)) (length (now (division .entry))) (sharesOf (λ i. length (now (division .entry)) / length (now (sites .entry))) (now (sites .entry)) m) ⌝ }
+{
+    let q = division.len() / sites.len();
+    starts::share_out(sites, q as u16, m, shares);
+    starts::begin(values, shares, left, division);
+    best_division::best(values, shares, division)
+}
+
+// The best balanced division over a list of sites, and its total.
+pub fn divide(
+    n: usize,
+    m: usize,
+    scores: &[u16],
+    rows: &[u8],
+    sites: &[u8],
+    division: &mut [u8],
+) -> u32
+    requires { ⌜ Accepted n m (now scores) (now rows) × Shareable n m (now sites) ⌝ }
+    requires { ⌜ length (now division) ≡ n ⌝ }
+    ensures total { λ r. ⌜ r ≡ divisionTotal (value m (now (scores .entry)) (now (rows .entry))) (divide (value m (now (scores .entry)) (now (rows .entry))) n (sharesOf (λ i. n / length (now (sites .entry))) (now (sites .entry)) m)) ⌝ }
+    ensures division { λ _. ⌜ now (division .exit) ≡ divide (value m (now (scores .entry)) (now (rows .entry))) n (sharesOf (λ i. n / length (now (sites .entry))) (now (sites .entry)) m) ⌝ }
+{
+    let w = m + 1;
+    let size = n * w;
+    let mut table = [0u32; 26000];
+    let mut shares = [0u16; 65];
+    let mut left = [0u16; 65];
+    values::fill_values(n, m, scores, rows, &mut table[..size]);
+    divide_table(
+        &table[..size],
+        m,
+        sites,
+        division,
+        &mut shares[..w],
+        &mut left[..w],
+    )
+}

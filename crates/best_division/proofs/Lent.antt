@@ -1,0 +1,68 @@
+-- Laws of the buffers that the two passes are lent, and of the best division's total.
+-- Assumes nothing.
+use mathlib.Core.Path.{_≡_, sym, ap, _∙_}
+use mathlib.Core.Bool.{false}
+use mathlib.Core.List.{List, _++_}
+use Prim.Native.Nat.{ℕ, _+_, _*_, _≤_, _<_}
+use native.Mathlib.Nat.{mul-le-mul-right, le-antisymm}
+use native.Mathlib.Omega.{arith}
+use lib.ListN.{length, take, replicate, length-replicate}
+use Rattle.counting.specs.Lists.{at, cell}
+use Rattle.counting.proofs.Parts.{front-length, back-is}
+use Rattle.division.specs.Shares.{InShares, divisionTotal}
+use Rattle.division.specs.Divide.{divide}
+use Rattle.division.specs.Town.{Town}
+use Rattle.division.proofs.Counts.{shareSum, in-length}
+use Rattle.division.proofs.Best.{divide-in, divide-most}
+use Rattle.division.proofs.Dual.{Priced, weak}
+use Rattle.chains.specs.Chains.{Buffers}
+use Rattle.ties.specs.Queue.{Room}
+
+-- the tables of at most 65 sites are small
+pub areas : (w : ℕ) → w ≤ 65 → (w * w ≤ 4225) × ((w + 1) * w ≤ 4290)
+areas w few = (omega (arith, mul-le-mul-right {m = w} {n = 65} w few), omega (arith, mul-le-mul-right {m = w} {n = 65} w few))
+
+-- the improving loop's buffers fit
+pub buffers : (w : ℕ) (low : List ℕ) → w ≤ 65 → length low ≡ w
+    → Buffers w low (take ((w + 1) * w) (replicate 4290 0)) (take (w * w) (replicate 4225 0)) (take (w * w) (replicate 4225 0))
+    (take (w * w) (replicate 4225 0)) (take w (replicate 65 0)) (take (w + 1) (replicate 66 0))
+buffers w low few fits =
+    let (area, all) = areas w few in
+    record {
+      low-fits = fits;
+      prices-fit = front-length ((w + 1) * w) 4290 all;
+      vias-fit = front-length (w * w) 4225 area;
+      pairs-fit = front-length (w * w) 4225 area;
+      gains-fit = front-length (w * w) 4225 area;
+      streets-fit = front-length w 65 few;
+      sites-fit = front-length (w + 1) 66 (omega arith);
+    }
+
+-- so do the tie pass's
+pub room : (w : ℕ) → w ≤ 65 → Room w (replicate 65 0) (replicate 65 0) (replicate 65 0) (replicate 65 false)
+room w few =
+    let fits : w ≤ length (replicate {A = ℕ} 65 0) = rw length-replicate few in
+    record { streets-fit = fits; nexts-fit = fits; sites-fit = fits; marks-fit = rw length-replicate few }
+
+-- prices that prove a division best prove its total to be that of the best division
+pub best-total : (v : ℕ → ℕ → ℕ) (d : ℕ → ℕ) (c D : List ℕ) → InShares D c → Priced v d c D → divisionTotal v D ≡ divisionTotal v (divide v (length D) c)
+best-total v d c D i p =
+    let sum : shareSum c ≡ length D = sym (in-length D c i) in
+    le-antisymm (divide-most v (length D) c sum D i) (weak v d c D i p (divide v (length D) c) (divide-in v (length D) c sum))
+
+-- prices in the front of a buffer that came back are as they were left
+module _ (w : ℕ) (low rest : List ℕ) (fits : length low ≡ w) where
+  pub back-bound : ((a : ℕ) → at low a ≤ 1000000000) → (a : ℕ) → at (take w (low ++ rest)) a ≤ 1000000000
+  back-bound h a = rw (back-is w low rest fits) (h a)
+
+  pub back-priced : (v : ℕ → ℕ → ℕ) (c D : List ℕ) → Priced v (at low) c D → Priced v (at (take w (low ++ rest))) c D
+  back-priced v c D h = rw (back-is w low rest fits) h
+
+-- a town of as many streets
+pub same-town : (values shares D E : List ℕ) → length E ≡ length D → Town values shares (length D) → Town values shares (length E)
+same-town values shares D E e h = rw e h
+
+-- the best division of as many streets, and its total
+pub given-back : (v : ℕ → ℕ → ℕ) (d : ℕ → ℕ) (c D E F : List ℕ) (t : ℕ) → length E ≡ length D → t ≡ divisionTotal v E → InShares E c → Priced v d c E
+    → F ≡ divide v (length E) c → (t ≡ divisionTotal v (divide v (length D) c)) × (F ≡ divide v (length D) c)
+given-back v d c D E F t e total i p best = (rw e at (total ∙ best-total v d c E i p), rw e at best)

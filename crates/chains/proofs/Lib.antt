@@ -1,0 +1,5 @@
+pub mod Search
+pub mod Gains
+pub mod Turns
+pub mod Layered
+pub mod Improving

@@ -1,0 +1,49 @@
+-- `chains::steps::begin` meets its contract. Assumes nothing.
+use borrow.Author.Needs.{needs}
+use lib.Seq.{length-take-le}
+use Rattle.chains.proofs.Turns.{front-at}
+use Rattle.counting.specs.Buffers.{Mapped}
+use Rattle.counting.proofs.Filling.{mapped-none, mapped-more, mapped-end, mapped-list}
+use Rattle.counting.specs.Lists.{at, cell}
+use lib.ListN.{length, take}
+use native.Mathlib.Omega.{arith}
+use mathlib.Core.Path.{_≡_, refl, sym, ap, _∙_}
+use Prim.Native.Nat.{ℕ, _+_, _*_, _≤_, _<_, _-_}
+use Rattle.chains.proofs.steps.begin.Statement.{statement}
+use Rattle.chains.proofs.steps.begin.Tie as tie
+
+clear-requires : tie.Need-clear-requires
+clear-requires c κs = search needs
+
+slice-relend-prefix-clear : tie.Need-slice-relend-prefix-clear
+slice-relend-prefix-clear c = search needs
+
+slice-aggregate-clear : tie.Need-slice-aggregate-clear
+slice-aggregate-clear c = sym (length-take-le (length (c .before .before .before .clear .last .0)) (c .before .before .before .before .before .before .before .args .prices .now) (omega (arith, c .before .before .before .clear .kept .0, c .before .before .before .before .before .before .before .pre)))
+
+clear-requires-2 : tie.Need-clear-requires-2
+clear-requires-2 c κs = search needs
+
+same-length : tie.Need-same-length
+same-length c = search needs
+
+same-length-2 : tie.Need-same-length-2
+same-length-2 c = search needs
+
+returns : tie.Need-returns
+returns c =
+    let a = c .before .before .before .before .before .before .before .before .before .before .args in
+    let w = c .before .before .before .before .before .before .clear .kept .0 in
+    (c .before .before .before .before .before .before .clear .ensures, λ b l. front-at (c .before .before .clear2 .last .0) _ b (omega (arith, w, c .before .before .clear2 .kept .0, length-take-le (length (c .before .before .before .before .before .before .clear .last .0)) (a .prices .now) (omega (arith, w, c .before .before .before .before .before .before .before .before .before .before .pre)))) (c .before .before .clear2 .ensures))
+
+pub begin-spec : {M : Type 1} → statement M
+begin-spec =
+    tie.close
+    (tie.spec
+    clear-requires
+    slice-relend-prefix-clear
+    slice-aggregate-clear
+    clear-requires-2
+    same-length
+    same-length-2
+    returns)

@@ -1,0 +1,57 @@
+-- `chains::steps::clear` meets its contract. Assumes nothing.
+use borrow.Author.Needs.{needs}
+use Rattle.counting.specs.Buffers.{Mapped}
+use Rattle.counting.proofs.Filling.{mapped-none, mapped-more, mapped-end, mapped-list}
+use Rattle.counting.specs.Lists.{at, cell}
+use lib.ListN.{length, take}
+use native.Mathlib.Omega.{arith}
+use mathlib.Core.Path.{_≡_, refl, sym, ap, _∙_}
+use Prim.Native.Nat.{ℕ, _+_, _*_, _≤_, _<_, _-_}
+use Rattle.chains.proofs.Turns.{cleared}
+use Rattle.chains.proofs.steps.clear.Statement.{statement}
+use Rattle.chains.proofs.steps.clear.Tie as tie
+
+abbrev Inv-loop : tie.InvT-loop
+Inv-loop list₀ i₀ i-end list i = (i ≤ i-end) × (i-end ≡ length list₀) × Mapped (λ j x. 0) list₀ list i
+
+abbrev μ-loop : tie.MeasureT-loop
+μ-loop list₀ i₀ i-end list i = i-end - i
+
+loop-holds : tie.Need-loop-holds Inv-loop μ-loop
+loop-holds c = (search needs, refl, mapped-none _ _)
+
+mul-list : tie.Need-mul-list Inv-loop μ-loop
+mul-list c = search needs
+
+slice-write-list : tie.Need-slice-write-list Inv-loop μ-loop
+slice-write-list c = search needs
+
+add-i : tie.Need-add-i Inv-loop μ-loop
+add-i c = search needs
+
+loop-less : tie.Need-loop-less Inv-loop μ-loop
+loop-less c = search needs
+
+loop-again : tie.Need-loop-again Inv-loop μ-loop
+loop-again c = let l = c .before .loop in (omega arith, refl, mapped-more _ _ (l .list) (l .i) _ (omega arith) (l .inv .2) refl)
+
+same-length : tie.Need-same-length Inv-loop μ-loop
+same-length c = search needs
+
+returns : tie.Need-returns Inv-loop μ-loop
+returns c = let l = c .before .loop in cleared _ _ (l .i) (omega arith) (l .inv .2)
+
+pub clear-spec : {M : Type 1} → statement M
+clear-spec =
+    tie.close
+    (tie.spec
+    Inv-loop
+    μ-loop
+    loop-holds
+    mul-list
+    slice-write-list
+    add-i
+    loop-less
+    loop-again
+    same-length
+    returns)

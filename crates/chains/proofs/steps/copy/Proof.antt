@@ -1,0 +1,64 @@
+-- `chains::steps::copy` meets its contract. Assumes nothing.
+use borrow.Author.Needs.{needs}
+use Rattle.counting.specs.Buffers.{Mapped}
+use Rattle.counting.proofs.Filling.{mapped-none, mapped-more, mapped-end, mapped-list}
+use Rattle.counting.specs.Lists.{at, cell}
+use lib.ListN.{length, take}
+use native.Mathlib.Omega.{arith}
+use mathlib.Core.Path.{_≡_, refl, sym, ap, _∙_}
+use Prim.Native.Nat.{ℕ, _+_, _*_, _≤_, _<_, _-_}
+use Rattle.chains.proofs.steps.copy.Statement.{statement}
+use Rattle.chains.proofs.steps.copy.Tie as tie
+
+abbrev Inv-loop : tie.InvT-loop
+Inv-loop list buffer₀ i₀ i-end buffer i = (i ≤ i-end) × (i-end ≡ length buffer₀) × Mapped (λ j x. at list j) buffer₀ buffer i
+
+abbrev μ-loop : tie.MeasureT-loop
+μ-loop list buffer₀ i₀ i-end buffer i = i-end - i
+
+loop-holds : tie.Need-loop-holds Inv-loop μ-loop
+loop-holds c = (search needs, refl, mapped-none _ _)
+
+mul-buffer : tie.Need-mul-buffer Inv-loop μ-loop
+mul-buffer c = search needs
+
+shared-slice-read-buffer : tie.Need-shared-slice-read-buffer Inv-loop μ-loop
+shared-slice-read-buffer c = search needs
+
+mul-buffer-2 : tie.Need-mul-buffer-2 Inv-loop μ-loop
+mul-buffer-2 c = search needs
+
+slice-write-buffer : tie.Need-slice-write-buffer Inv-loop μ-loop
+slice-write-buffer c = search needs
+
+add-i : tie.Need-add-i Inv-loop μ-loop
+add-i c = search needs
+
+loop-less : tie.Need-loop-less Inv-loop μ-loop
+loop-less c = search needs
+
+loop-again : tie.Need-loop-again Inv-loop μ-loop
+loop-again c = let l = c .before .before .loop in (omega arith, refl, mapped-more _ _ (l .buffer) (l .i) _ (omega arith) (l .inv .2) refl)
+
+same-length : tie.Need-same-length Inv-loop μ-loop
+same-length c = search needs
+
+returns : tie.Need-returns Inv-loop μ-loop
+returns c = let l = c .before .loop in mapped-list _ _ _ (l .i) (c .before .before .pre) (omega arith) (l .inv .2)
+
+pub copy-spec : {M : Type 1} → statement M
+copy-spec =
+    tie.close
+    (tie.spec
+    Inv-loop
+    μ-loop
+    loop-holds
+    mul-buffer
+    shared-slice-read-buffer
+    mul-buffer-2
+    slice-write-buffer
+    add-i
+    loop-less
+    loop-again
+    same-length
+    returns)

@@ -1,0 +1,21 @@
+-- What the passes over a division are lent and leave as it is: the streets' values and the shares, both with site 0 in front.
+-- Assumes nothing.
+use Prim.Native.Nat.{ℕ, _*_, _≤_, _<_}
+use mathlib.Core.Path.{_≡_}
+use mathlib.Core.List.{List, [], _∷_}
+use lib.ListN.{length}
+use Rattle.counting.specs.Lists.{at}
+
+-- a list without its first number: the shares of the sites 1, 2, .. where site 0 stands in front of them
+abbrev pub tail : List ℕ → List ℕ
+tail [] = []
+tail (x ∷ list) = list
+
+-- values of n streets in rows as wide as the shares, and shares of which site 0 has none
+pub record Town (values shares : List ℕ) (n : ℕ) : Type 0 where
+  pub size : length values ≡ n * length shares
+  pub small : (i : ℕ) → at values i ≤ 99000
+  pub nobody : at shares 0 ≡ 0
+  pub some-site : 0 < length shares
+  pub few-sites : length shares ≤ 65
+  pub few : n ≤ 400

@@ -1,0 +1,69 @@
+-- `pairs::rows::rebuild` meets its contract. Assumes nothing.
+use borrow.Author.Needs.{needs}
+use mathlib.Core.Path.{_≡_, refl}
+use Prim.Native.Nat.{_≤_, _-_}
+use native.Mathlib.Omega.{arith}
+use lib.ListN.{length}
+use Rattle.counting.specs.Lists.{at, cell}
+use Rattle.pairs.specs.Moves.{Row}
+use Rattle.pairs.proofs.Moves.{row-start, row-end}
+use Rattle.pairs.proofs.rows.rebuild.Statement.{statement}
+use Rattle.pairs.proofs.rows.rebuild.Tie as tie
+
+abbrev Inv-loop : tie.InvT-loop
+Inv-loop values division w a pairs₀ gains₀ s₀ s-end pairs gains s =
+    (s ≤ s-end) × (s-end ≡ length division) × (length pairs ≡ w) × (length gains ≡ w)
+    × Row (cell values w) (at division) a s (length division) w (at gains) (at pairs)
+
+abbrev μ-loop : tie.MeasureT-loop
+μ-loop values division w a pairs₀ gains₀ s₀ s-end pairs gains s = s-end - s
+
+clear-requires : tie.Need-clear-requires Inv-loop μ-loop
+clear-requires c κs = search needs
+
+loop-holds : tie.Need-loop-holds Inv-loop μ-loop
+loop-holds c =
+    let a = c .before .before .before .before .before .before .before .before .args in
+    let p = c .before .before .before .before .before .before .before .before .pre in
+    let call = c .before .before .clear in
+    (search needs, refl, search needs, search needs, row-start _ _ _ _ _ (a .gains .now) (call .last .0) (at (a .pairs .now)) (p .1 .2) (call .ensures))
+
+visit-requires : tie.Need-visit-requires Inv-loop μ-loop
+visit-requires c κs =
+    let p = c .before .before .before .before .before .before .before .before .before .before .before .before .pre in
+    let l = c .before .before .before .loop in
+    (p .0, ((omega arith, p .1 .0, l .inv .2, l .inv .3), l .inv .4))
+
+add-s : tie.Need-add-s Inv-loop μ-loop
+add-s c = search needs
+
+loop-less : tie.Need-loop-less Inv-loop μ-loop
+loop-less c = search needs
+
+loop-again : tie.Need-loop-again Inv-loop μ-loop
+loop-again c = (omega arith, refl, search needs, search needs, c .before .before .before .before .visit .ensures)
+
+same-length : tie.Need-same-length Inv-loop μ-loop
+same-length c = search needs
+
+same-length-2 : tie.Need-same-length-2 Inv-loop μ-loop
+same-length-2 c = search needs
+
+returns : tie.Need-returns Inv-loop μ-loop
+returns c = let l = c .before .loop in row-end _ _ _ _ (l .s) _ _ _ (omega arith) (omega arith) (l .inv .4)
+
+pub rebuild-spec : {M : Type 1} → statement M
+rebuild-spec =
+    tie.close
+    (tie.spec
+    Inv-loop
+    μ-loop
+    clear-requires
+    loop-holds
+    visit-requires
+    add-s
+    loop-less
+    loop-again
+    same-length
+    same-length-2
+    returns)

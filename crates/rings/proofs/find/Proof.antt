@@ -1,0 +1,57 @@
+-- `rings::find` meets its contract. Assumes nothing.
+use borrow.Author.Needs.{needs}
+use mathlib.Core.Logic.{_≢_}
+use Prim.Native.Nat.{ℕ, _-_, _≤_, _<_}
+use native.Mathlib.Omega.{arith}
+use Rattle.counting.specs.Lists.{at}
+use Rattle.rings.proofs.Back.{not-next}
+use Rattle.rings.proofs.find.Statement.{statement}
+use Rattle.rings.proofs.find.Tie as tie
+
+abbrev Inv-loop : tie.InvT-loop
+Inv-loop sites from to x p₀ p = (from ≤ p) × (p ≤ to) × ((j : ℕ) → from ≤ j → j < p → at sites j ≢ x)
+
+abbrev μ-loop : tie.MeasureT-loop
+μ-loop sites from to x p₀ p = to - p
+
+loop-holds : tie.Need-loop-holds Inv-loop μ-loop
+loop-holds c = (omega arith, omega arith, λ j a b. absurd (omega arith))
+
+shared-slice-read-if1 : tie.Need-shared-slice-read-if1 Inv-loop μ-loop
+shared-slice-read-if1 c = search needs
+
+returns : tie.Need-returns Inv-loop μ-loop
+returns c =
+    let l = c .before .before .before .loop in
+    record { low = omega arith; high = omega arith; here = λ m. c .if1 .taken; before = l .inv .2 }
+
+add-p : tie.Need-add-p Inv-loop μ-loop
+add-p c = search needs
+
+loop-less : tie.Need-loop-less Inv-loop μ-loop
+loop-less c = search needs
+
+loop-again : tie.Need-loop-again Inv-loop μ-loop
+loop-again c =
+    let l = c .before .before .before .loop in
+    let a = c .before .before .before .before .args in
+    (omega arith, omega arith, not-next (at (a .sites .now)) (a .from) (l .p) (a .x) (l .inv .2) (c .if1 .left))
+
+returns-2 : tie.Need-returns-2 Inv-loop μ-loop
+returns-2 c =
+    let l = c .before .loop in
+    record { low = omega arith; high = omega arith; here = λ m. absurd (omega arith); before = λ j a b. l .inv .2 j a (omega arith) }
+
+pub find-spec : {M : Type 1} → statement M
+find-spec =
+    tie.close
+    (tie.spec
+    Inv-loop
+    μ-loop
+    loop-holds
+    shared-slice-read-if1
+    returns
+    add-p
+    loop-less
+    loop-again
+    returns-2)

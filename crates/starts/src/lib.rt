@@ -1,0 +1,84 @@
+// Shares from a list of sites, and a first division in given shares, from which a better one is then sought.
+ghost use mathlib.Core.Path.{_≡_};
+ghost use Prim.Native.Nat.{ℕ, _+_, _<_};
+ghost use lib.ListN.{length};
+ghost use Rattle.counting.specs.Lists.{at};
+ghost use Rattle.division.specs.Shares.{InShares, sharesOf};
+ghost use Rattle.division.specs.Town.{Town, tail};
+ghost use Rattle.division.proofs.Counts.{shareSum};
+ghost use Rattle.starts.specs.Given.{Unshared, Seen};
+
+// Each listed site gets the share q; m is the number of sites.
+pub fn share_out(sites: &[u8], q: u16, m: usize, shares: &mut [u16])
+    requires { ⌜ Unshared (now sites) m (now shares) ⌝ }
+    ensures { λ _. ⌜ (tail (now (shares .exit)) ≡ sharesOf (λ i. q) (now (sites .entry)) m) × (at (now (shares .exit)) 0 ≡ 0) ⌝ }
+{
+    for i in 0..sites.len() {
+        let a = sites[i] as usize;
+        shares[a] = q;
+    }
+}
+
+// Before the first street has its site, every share is left whole.
+fn copy(shares: &[u16], left: &mut [u16])
+    requires { ⌜ length (now shares) ≡ length (now left) ⌝ }
+    ensures { λ _. ⌜ now (left .exit) ≡ now (shares .entry) ⌝ }
+{
+    for a in 0..left.len() {
+        left[a] = shares[a];
+    }
+}
+
+// The best site so far that has a share left, and 1 more than its value; 0 while there is none.
+struct Found {
+    site: usize,
+    most: u64,
+}
+
+// The better of the best so far and the site a, which must have a share left and be better to win.
+fn better(found: Found, row: &[u32], left: &[u16], a: usize) -> Found
+    requires { ⌜ (length (now row) ≡ length (now left)) × (a < length (now left)) ⌝ }
+    requires { ⌜ Seen (now left) a (found .site) (found .most) ⌝ }
+    ensures { λ r. ⌜ Seen (now (left .entry)) (a + 1) (r .site) (r .most) ⌝ }
+{
+    if left[a] == 0 {
+        return found;
+    }
+    let value = row[a] as u64;
+    if value < found.most {
+        return found;
+    }
+    Found {
+        site: a,
+        most: value + 1,
+    }
+}
+
+// The site that a street gives most among those that have a share left, the lowest number of equals.
+fn best_left(row: &[u32], left: &[u16]) -> usize
+    requires { ⌜ (length (now row) ≡ length (now left)) × ((a : ℕ) × (0 < at (now left) a)) ⌝ }
+    ensures { λ r. ⌜ (r < length (now (left .entry))) × (0 < at (now (left .entry)) r) ⌝ }
+{
+    let mut found = Found { site: 0, most: 0 };
+    for a in 0..left.len() {
+        found = better(found, row, left, a);
+    }
+    found.site
+}
+
+// Each street in turn goes to the site that it gives most among those that have a share left, so that few streets are left to move.
+pub fn begin(values: &[u32], shares: &[u16], left: &mut [u16], division: &mut [u8])
+    requires { ⌜ Town (now values) (now shares) (length (now division)) ⌝ }
+    requires { ⌜ (shareSum (tail (now shares)) ≡ length (now division)) × (length (now left) ≡ length (now shares)) ⌝ }
+    ensures { λ _. ⌜ InShares (now (division .exit)) (tail (now (shares .entry))) ⌝ }
+{
+    copy(shares, left);
+    let w = shares.len();
+    for s in 0..division.len() {
+        let from = s * w;
+        let to = from + w;
+        let a = best_left(&values[from..to], left);
+        left[a] = left[a] - 1;
+        division[s] = a as u8;
+    }
+}

@@ -1,0 +1,4 @@
+pub mod Growth
+pub mod Bounds
+pub mod Homeward
+pub mod Settled

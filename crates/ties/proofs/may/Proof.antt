@@ -1,0 +1,22 @@
+-- `ties::may` meets its contract. Assumes nothing.
+use borrow.Author.Needs.{needs}
+use Rattle.ties.proofs.may.Statement.{statement}
+use Rattle.ties.proofs.may.Tie as tie
+
+mul-if1 : tie.Need-mul-if1
+mul-if1 c = search needs
+
+shared-slice-read-if1 : tie.Need-shared-slice-read-if1
+shared-slice-read-if1 c = search needs
+
+returns : tie.Need-returns
+returns c = search needs
+
+tight-requires : tie.Need-tight-requires
+tight-requires c κs = search needs
+
+returns-2 : tie.Need-returns-2
+returns-2 c = λ e l t. c .tight .ensures .1 e t
+
+pub may-spec : {M : Type 1} → statement M
+may-spec = tie.close (tie.spec mul-if1 shared-slice-read-if1 returns tight-requires returns-2)
