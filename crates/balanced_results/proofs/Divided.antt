@@ -3,15 +3,15 @@
 -- Assumes nothing.
 use mathlib.Core.Path.{_≡_, _∙_}
 use mathlib.Core.List.{List}
-use Prim.Native.Nat.{ℕ, _+_, _*_, _/_, _≤_, _<_}
+use Prim.Native.Nat.{ℕ, _+_, _/_, _≤_, _<_}
 use native.Mathlib.Omega.{arith}
 use lib.ListN.{length}
-use Rattle.counting.specs.Lists.{at, cell}
+use Rattle.counting.specs.Lists.{at}
 use Rattle.counting.proofs.Sums.{has-at}
 use Rattle.values.specs.Table.{Table}
-use Rattle.division.specs.Shares.{InShares, share, divisionTotal, sharesOf}
+use Rattle.division.specs.Shares.{InShares, divisionTotal, sharesOf}
 use Rattle.division.specs.Divide.{divide}
-use Rattle.division.specs.Town.{Town, tail}
+use Rattle.division.specs.Town.{Town}
 use Rattle.division.proofs.Counts.{shareSum, share-fits, has-share, divisionTotal-same}
 use Rattle.division.proofs.Best.{divide-in, divide-length, divide-same}
 use Rattle.division.proofs.Shared.{shares-length, shares-even}

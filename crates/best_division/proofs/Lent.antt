@@ -1,13 +1,13 @@
 -- Laws of the buffers that the two passes are lent, and of the best division's total.
 -- Assumes nothing.
-use mathlib.Core.Path.{_≡_, sym, ap, _∙_}
+use mathlib.Core.Path.{_≡_, sym, _∙_}
 use mathlib.Core.Bool.{false}
 use mathlib.Core.List.{List, _++_}
-use Prim.Native.Nat.{ℕ, _+_, _*_, _≤_, _<_}
+use Prim.Native.Nat.{ℕ, _+_, _*_, _≤_}
 use native.Mathlib.Nat.{mul-le-mul-right, le-antisymm}
 use native.Mathlib.Omega.{arith}
 use lib.ListN.{length, take, replicate, length-replicate}
-use Rattle.counting.specs.Lists.{at, cell}
+use Rattle.counting.specs.Lists.{at}
 use Rattle.counting.proofs.Parts.{front-length, back-is}
 use Rattle.division.specs.Shares.{InShares, divisionTotal}
 use Rattle.division.specs.Divide.{divide}

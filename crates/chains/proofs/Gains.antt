@@ -1,10 +1,9 @@
 -- Laws of the closed chain that a search finds: it can be walked back to, it gains, it keeps the shares, and the best moves from the
 -- sites that are not on it stay.
 -- Assumes nothing.
-use mathlib.Core.Path.{_≡_, refl, sym, _∙_}
-use mathlib.Core.Logic.{_≢_}
+use mathlib.Core.Path.{_≡_}
 use mathlib.Core.List.{List}
-use Prim.Native.Nat.{ℕ, zero, suc, _+_, _*_, _-_, _≤_, _<_}
+use Prim.Native.Nat.{ℕ, _+_, _*_, _-_, _≤_, _<_}
 use native.Mathlib.Nat.{mul-le-mul-right}
 use native.Mathlib.Omega.{arith}
 use lib.ListN.{length}
@@ -15,8 +14,8 @@ use Rattle.division.proofs.Counts.{divisionTotal-bound}
 use Rattle.division.proofs.Towns.{sited}
 use Rattle.pairs.specs.Moves.{Land, Tables, Mended}
 use Rattle.pairs.proofs.Moves.{row-alike}
-use Rattle.rings.specs.Rings.{moved, Trail, Moves, Walkable, Walked}
-use Rattle.chains.specs.Chains.{Buffers, Searched, Raised, Closed}
+use Rattle.rings.specs.Rings.{moved, Moves, Walkable, Walked}
+use Rattle.chains.specs.Chains.{Searched, Raised, Closed}
 use Rattle.rings.proofs.Moved.{moved-length, moved-total, moved-alike}
 use Rattle.chains.proofs.Search.{climb, raised-by}
 

@@ -3,15 +3,14 @@
 use mathlib.Core.Path.{_≡_, refl, sym, _∙_}
 use mathlib.Core.Bool.{true, false}
 use mathlib.Core.Logic.{_≢_}
-use mathlib.Core.List.{List, [], _∷_, _++_}
+use mathlib.Core.List.{List}
 use Prim.Native.Nat.{ℕ, zero, suc, _+_, _*_, _≤_, _<_}
 use native.Mathlib.Nat.{mul-le-mul-right}
 use native.Mathlib.Omega.{arith}
 use lib.Dec.{eqb}
 use lib.ListN.{length}
 use borrow.Author.Tests.{ne-eqb}
-use Rattle.counting.specs.Words.{one}
-use Rattle.counting.specs.Lists.{at, has, distinct, sum}
+use Rattle.counting.specs.Lists.{at, has, distinct}
 use Rattle.counting.specs.Buffers.{joined, listOf}
 use Rattle.counting.proofs.Membership.{has-none, distinct-last, distinct-within, sum-length}
 use Rattle.counting.proofs.Sums.{listOf-length, listOf-at, has-at, has-index}

@@ -2,12 +2,12 @@
 -- Assumes nothing.
 use mathlib.Core.Path.{_≡_, refl, sym}
 use mathlib.Core.List.{List, [], _∷_}
-use Prim.Native.Nat.{ℕ, zero, suc, _+_, _≤_, _<_}
+use Prim.Native.Nat.{ℕ, zero, suc, _<_}
 use native.Mathlib.Omega.{arith}
 use lib.ListN.{length}
 use Rattle.counting.specs.Lists.{at}
 use Rattle.division.specs.Shares.{share, InShares}
-use Rattle.division.specs.Town.{tail, Town}
+use Rattle.division.specs.Town.{tail}
 use Rattle.division.proofs.Counts.{share-fits, has-share}
 
 -- a site's share is the number at its index

@@ -1,10 +1,9 @@
 // From an accepted survey to the free plan's results: the table is filled, the engine chooses or takes the sites, and the streets are served.
 use free_rounds::State;
 ghost use mathlib.Core.Path.{_≡_};
-ghost use mathlib.Core.Bool.{false};
 ghost use mathlib.Core.List.{[]};
 ghost use Prim.Native.Nat.{ℕ, _+_, _*_, _≤_};
-ghost use lib.ListN.{length, getD, take};
+ghost use lib.ListN.{length, take};
 ghost use Rattle.counting.specs.Words.{sumOf};
 ghost use Rattle.counting.specs.Lists.{at, has};
 ghost use Rattle.counting.specs.Buffers.{listOf};

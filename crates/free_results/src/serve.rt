@@ -1,7 +1,7 @@
 // Where the streets go, once the sites are chosen.
 ghost use mathlib.Core.Path.{_≡_};
 ghost use mathlib.Core.Bool.{false};
-ghost use Prim.Native.Nat.{ℕ, _+_, _*_, _≤_};
+ghost use Prim.Native.Nat.{_+_, _*_, _≤_};
 ghost use lib.ListN.{length, getD};
 ghost use Rattle.counting.specs.Words.{_when_};
 ghost use Rattle.counting.specs.Buffers.{listOf};

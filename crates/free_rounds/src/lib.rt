@@ -1,7 +1,7 @@
 // The free plan's engine: a state that holds the sites chosen so far and each street's best score, passed by value from round to round.
 ghost use mathlib.Core.Path.{_≡_};
 ghost use mathlib.Core.List.{_∷_, [], _++_};
-ghost use Prim.Native.Nat.{ℕ, _+_, _*_, _≤_, _<_, max};
+ghost use Prim.Native.Nat.{ℕ, _+_, _≤_, _<_};
 ghost use lib.ListN.{length};
 ghost use Rattle.counting.specs.Lists.{at};
 ghost use Rattle.values.specs.Table.{valueIn, Table};

@@ -1,7 +1,7 @@
 // The choice of a round: the unchosen site with the greatest total, the lowest number on a tie.
 use crate::sums;
 ghost use mathlib.Core.Path.{_≡_};
-ghost use Prim.Native.Nat.{ℕ, _+_, _*_, _≤_, _<_, max};
+ghost use Prim.Native.Nat.{ℕ, _+_, _≤_, _<_, max};
 ghost use lib.ListN.{length};
 ghost use Rattle.counting.specs.Words.{sumOf, _unless_};
 ghost use Rattle.counting.specs.Lists.{at};

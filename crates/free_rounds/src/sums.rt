@@ -1,6 +1,6 @@
 // Sums over the streets, in one pass over the table of values.
 ghost use mathlib.Core.Path.{_≡_};
-ghost use Prim.Native.Nat.{ℕ, _+_, _*_, _≤_, _<_, max};
+ghost use Prim.Native.Nat.{_+_, _*_, _≤_, _<_, max};
 ghost use lib.ListN.{length};
 ghost use Rattle.counting.specs.Words.{sumOf};
 ghost use Rattle.counting.specs.Lists.{at};

@@ -3,12 +3,10 @@ use borrow.Author.Needs.{needs}
 use Rattle.balanced_results.proofs.Divided.{table-of, shareable-of, as-surveyed}
 use Rattle.survey.specs.Rows.{value}
 use native.Mathlib.Omega.{arith}
-use mathlib.Core.Path.{_≡_, refl, sym, ap, _∙_}
-use lib.ListN.{length, take}
-use Prim.Native.Nat.{ℕ, _+_, _*_, _/_}
+use mathlib.Core.Path.{sym}
+use Prim.Native.Nat.{_+_}
 use Rattle.counting.proofs.Parts.{front-length, front-blank}
 use Rattle.values.proofs.Tabled.{table-fits, table-blank, table-room, table-size, table-ready, table-same}
-use Rattle.balanced_results.proofs.Divided.{unshared, town, for-all, as-valued, total-valued, given}
 use Rattle.balanced_results.proofs.divide.Statement.{statement}
 use Rattle.balanced_results.proofs.divide.Tie as tie
 

@@ -1,13 +1,13 @@
 -- `balanced_results::divide_table` meets its contract. Assumes nothing.
 use borrow.Author.Needs.{needs}
 use native.Mathlib.Omega.{arith}
-use mathlib.Core.Path.{_≡_, refl, sym, ap, _∙_}
-use lib.ListN.{length, take}
-use Prim.Native.Nat.{ℕ, _+_, _*_, _/_}
+use mathlib.Core.Path.{refl, sym, ap, _∙_}
+use lib.ListN.{length}
+use Prim.Native.Nat.{_+_}
 use native.Mathlib.Nat.{div-le-self}
-use Rattle.counting.specs.Lists.{at, cell}
+use Rattle.counting.specs.Lists.{cell}
 use Rattle.division.proofs.Counts.{shareSum}
-use Rattle.balanced_results.proofs.Divided.{unshared, town, for-all, as-valued, total-valued, given}
+use Rattle.balanced_results.proofs.Divided.{unshared, town, for-all, given}
 use Rattle.balanced_results.proofs.divide_table.Statement.{statement}
 use Rattle.balanced_results.proofs.divide_table.Tie as tie
 

@@ -1,13 +1,12 @@
 -- `best_division::best` meets its contract. Assumes nothing.
 use borrow.Author.Needs.{needs}
 use Rattle.best_division.proofs.Lent.{back-bound, back-priced, same-town, given-back}
-use Rattle.best_division.proofs.Lent.{areas, buffers, room}
 use Rattle.counting.proofs.Parts.{front-length, back-room, back-size}
 use Rattle.counting.specs.Lists.{at, cell}
 use Rattle.division.specs.Town.{tail}
 use native.Mathlib.Omega.{arith}
-use mathlib.Core.Path.{_≡_, refl, sym, ap, _∙_}
-use lib.ListN.{length, take}
+use mathlib.Core.Path.{sym}
+use lib.ListN.{length}
 use Rattle.best_division.proofs.best.Statement.{statement}
 use Rattle.best_division.proofs.best.Tie as tie
 

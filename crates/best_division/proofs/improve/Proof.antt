@@ -1,10 +1,10 @@
 -- `best_division::improve` meets its contract. Assumes nothing.
 use borrow.Author.Needs.{needs}
-use Rattle.best_division.proofs.Lent.{areas, buffers, room}
-use Rattle.counting.proofs.Parts.{front-length, back-room, back-size}
+use Rattle.best_division.proofs.Lent.{areas, buffers}
+use Rattle.counting.proofs.Parts.{front-length}
 use native.Mathlib.Omega.{arith}
-use mathlib.Core.Path.{_≡_, refl, sym, ap, _∙_}
-use lib.ListN.{length, take}
+use mathlib.Core.Path.{sym}
+use lib.ListN.{length}
 use Prim.Native.Nat.{_+_, _*_}
 use Rattle.best_division.proofs.improve.Statement.{statement}
 use Rattle.best_division.proofs.improve.Tie as tie

@@ -1,10 +1,6 @@
 -- `best_division::settle` meets its contract. Assumes nothing.
 use borrow.Author.Needs.{needs}
-use Rattle.best_division.proofs.Lent.{areas, buffers, room}
-use Rattle.counting.proofs.Parts.{front-length, back-room, back-size}
-use native.Mathlib.Omega.{arith}
-use mathlib.Core.Path.{_≡_, refl, sym, ap, _∙_}
-use lib.ListN.{length, take}
+use Rattle.best_division.proofs.Lent.{room}
 use Rattle.best_division.proofs.settle.Statement.{statement}
 use Rattle.best_division.proofs.settle.Tie as tie
 

@@ -2,13 +2,10 @@
 use borrow.Author.Needs.{needs}
 use Rattle.chains.proofs.Layered.{wrote}
 use Rattle.chains.proofs.Layered.{room, same-width, ground, fitted, deepened, raised-row}
-use Rattle.counting.specs.Buffers.{Mapped}
-use Rattle.counting.proofs.Filling.{mapped-none, mapped-more, mapped-end, mapped-list}
-use Rattle.counting.specs.Lists.{at, cell}
-use lib.ListN.{length, take}
+use lib.ListN.{length}
 use native.Mathlib.Omega.{arith}
-use mathlib.Core.Path.{_≡_, refl, sym, ap, _∙_}
-use Prim.Native.Nat.{ℕ, _+_, _*_, _≤_, _<_, _-_}
+use mathlib.Core.Path.{refl}
+use Prim.Native.Nat.{_+_, _*_}
 use Rattle.chains.proofs.deepen.Statement.{statement}
 use Rattle.chains.proofs.deepen.Tie as tie
 

@@ -1,12 +1,9 @@
 -- `chains::improve` meets its contract. Assumes nothing.
-use borrow.Author.Needs.{needs}
-use Rattle.counting.specs.Buffers.{Mapped}
-use Rattle.counting.proofs.Filling.{mapped-none, mapped-more, mapped-end, mapped-list}
 use Rattle.counting.specs.Lists.{at, cell}
-use lib.ListN.{length, take}
+use lib.ListN.{length}
 use native.Mathlib.Omega.{arith}
-use mathlib.Core.Path.{_≡_, refl, sym, ap, _∙_}
-use Prim.Native.Nat.{ℕ, _+_, _*_, _≤_, _<_, _-_}
+use mathlib.Core.Path.{_≡_, refl, ap}
+use Prim.Native.Nat.{ℕ, _+_, _*_, _<_, _-_}
 use mathlib.Core.List.{List}
 use Rattle.division.specs.Shares.{divisionTotal}
 use Rattle.chains.specs.Chains.{Searched}

@@ -1,13 +1,8 @@
 -- `chains::turn` meets its contract. Assumes nothing.
 use borrow.Author.Needs.{needs}
 use Rattle.chains.proofs.Gains.{land-same, ring-mends}
-use Rattle.counting.specs.Buffers.{Mapped}
-use Rattle.counting.proofs.Filling.{mapped-none, mapped-more, mapped-end, mapped-list}
-use Rattle.counting.specs.Lists.{at, cell}
-use lib.ListN.{length, take}
+use Rattle.counting.specs.Lists.{at}
 use native.Mathlib.Omega.{arith}
-use mathlib.Core.Path.{_≡_, refl, sym, ap, _∙_}
-use Prim.Native.Nat.{ℕ, _+_, _*_, _≤_, _<_, _-_}
 use Rattle.chains.proofs.turn.Statement.{statement}
 use Rattle.chains.proofs.turn.Tie as tie
 

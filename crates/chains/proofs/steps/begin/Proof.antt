@@ -2,13 +2,9 @@
 use borrow.Author.Needs.{needs}
 use lib.Seq.{length-take-le}
 use Rattle.chains.proofs.Turns.{front-at}
-use Rattle.counting.specs.Buffers.{Mapped}
-use Rattle.counting.proofs.Filling.{mapped-none, mapped-more, mapped-end, mapped-list}
-use Rattle.counting.specs.Lists.{at, cell}
-use lib.ListN.{length, take}
+use lib.ListN.{length}
 use native.Mathlib.Omega.{arith}
-use mathlib.Core.Path.{_≡_, refl, sym, ap, _∙_}
-use Prim.Native.Nat.{ℕ, _+_, _*_, _≤_, _<_, _-_}
+use mathlib.Core.Path.{sym}
 use Rattle.chains.proofs.steps.begin.Statement.{statement}
 use Rattle.chains.proofs.steps.begin.Tie as tie
 

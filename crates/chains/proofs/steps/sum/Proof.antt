@@ -1,13 +1,11 @@
 -- `chains::steps::sum` meets its contract. Assumes nothing.
 use borrow.Author.Needs.{needs}
 use Rattle.chains.proofs.Turns.{sum-start, sum-next, sum-done}
-use Rattle.counting.specs.Buffers.{Mapped}
-use Rattle.counting.proofs.Filling.{mapped-none, mapped-more, mapped-end, mapped-list}
 use Rattle.counting.specs.Lists.{at, cell}
 use lib.ListN.{length, take}
 use native.Mathlib.Omega.{arith}
-use mathlib.Core.Path.{_≡_, refl, sym, ap, _∙_}
-use Prim.Native.Nat.{ℕ, _+_, _*_, _≤_, _<_, _-_}
+use mathlib.Core.Path.{_≡_, refl}
+use Prim.Native.Nat.{_+_, _*_, _≤_, _-_}
 use Rattle.counting.proofs.Tables.{in-rows}
 use Rattle.division.specs.Shares.{divisionTotal}
 use Rattle.chains.proofs.Turns.{sum-next, sum-done}
