@@ -9,7 +9,7 @@ ghost use Prim.Native.Nat.{_≤_, _<_};
 ghost use Rattle.io.specs.Counts.{Counts};
 
 // the last command, the most cases, and the most bytes up to the end of a number
-const LAST: usize = 6;
+const LAST: usize = 7;
 
 const CASES: u64 = 10000;
 
@@ -189,14 +189,38 @@ fn say_buffer(word: &[u8], bytes: &[u8]) {
     say_bytes(bytes);
 }
 
-// A free division, and its buffer.
-fn divided(n: usize, m: usize, scores: &[u16], rows: &[u8], sites: &[u8], division: &mut [u8]) {
-    say_answer(planner::free_division(n, m, scores, rows, sites, division));
+// A division, balanced or free.
+fn division_of(
+    balanced: bool,
+    n: usize,
+    m: usize,
+    scores: &[u16],
+    rows: &[u8],
+    sites: &[u8],
+    division: &mut [u8],
+) -> Answer {
+    if balanced {
+        return planner::balanced_division(n, m, scores, rows, sites, division);
+    }
+    planner::free_division(n, m, scores, rows, sites, division)
+}
+
+// A division, and its buffer.
+fn divided(
+    balanced: bool,
+    n: usize,
+    m: usize,
+    scores: &[u16],
+    rows: &[u8],
+    sites: &[u8],
+    division: &mut [u8],
+) {
+    say_answer(division_of(balanced, n, m, scores, rows, sites, division));
     say_buffer(b" division", division);
 }
 
-// Command 5: the streets, the sites; the scores; the rows; the list of sites; the division's buffer.
-fn division_case() {
+// Commands 5, free, and 7, balanced: the streets, the sites; the scores; the rows; the list of sites; the division's buffer.
+fn division_case(balanced: bool) {
     let n = number(BOUND);
     let m = number(BOUND);
     let s = scores_list();
@@ -212,6 +236,7 @@ fn division_case() {
     let mut division = d.buffer;
     let d_len = d.len;
     divided(
+        balanced,
         n,
         m,
         &scores[..s_len],
@@ -276,8 +301,9 @@ fn one_case(case: u64, command: usize) -> bool {
         2 => row_case(),
         3 => part_case(),
         4 => list_case(),
-        5 => division_case(),
-        _ => plan_case(),
+        5 => division_case(false),
+        6 => plan_case(),
+        _ => division_case(true),
     }
     io::write_all(STDOUT_FILENO, b"\n");
     true

@@ -1,7 +1,7 @@
 -- The words for lists of sites and of streets.
 -- Assumes nothing.
 use Prim.Native.Nat.{ℕ, _+_, _*_}
-use mathlib.Core.Bool.{Bool, true, false, not, _&&_, _||_}
+use mathlib.Core.Bool.{Bool, true, false, not, _&&_, _||_, cond}
 use mathlib.Core.List.{List, [], _∷_}
 use lib.Dec.{eqb}
 use lib.ListN.{getD}
@@ -34,3 +34,8 @@ count (b ∷ list) a = one (eqb b a) + count list a
 abbrev pub sum : (ℕ → ℕ) → List ℕ → ℕ
 sum f [] = 0
 sum f (a ∷ list) = f a + sum f list
+
+-- the numbers of a list that pass a test
+abbrev pub only : (ℕ → Bool) → List ℕ → List ℕ
+only test [] = []
+only test (a ∷ list) = let more : List ℕ = only test list in cond (test a) (a ∷ more) more

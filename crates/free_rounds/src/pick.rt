@@ -37,7 +37,7 @@ fn better(found: Found, site: usize, most: u32) -> Found
 }
 
 // The site of 1 to m that is not flagged and has the greatest sum, the lowest of equals.
-fn best_site(sums: &[u32], marks: &[bool], m: usize) -> usize
+pub fn best_site(sums: &[u32], marks: &[bool], m: usize) -> usize
     requires { ⌜ (length (now sums) ≡ m + 1) × (length (now marks) ≡ 256) × (m ≤ 64) × ((a : ℕ) → at (now sums) a ≤ 39600000) ⌝ }
     ensures { λ r. ⌜ r ≡ greatest (unflagged (now (marks .entry))) (at (now (sums .entry))) m ⌝ }
 {

@@ -20,7 +20,7 @@ use Rattle.counting.proofs.Refusals.{or-zero, when-zero, within, exact, first-n
 use Rattle.survey.specs.Refusals.{shareRefusal, lengthRefusal, surveyRefusal}
 use Rattle.survey.specs.Accepted.{Accepted}
 use Rattle.survey.proofs.Sound.{accepted, own-accepted, chosen-within}
-use Rattle.refusals.specs.Refusals.{rangeRefusal, rangesRefusal, listRefusal, listTotalRefusal, freeDivisionRefusal, balancedDivisionRefusal, buffersRefusal, freePlanRefusal}
+use Rattle.refusals.specs.Refusals.{rangeRefusal, rangesRefusal, listRefusal, listTotalRefusal, freeDivisionRefusal, balancedDivisionRefusal, buffersRefusal, freePlanRefusal, balancedPlanRefusal, floorRefusal}
 
 -- ---- a given list of sites that is not refused: each is one of 1 to m, and none is listed twice
 module _ (m : ℕ) (sites : List ℕ) (e : listRefusal m sites ≡ 0) where
@@ -111,3 +111,29 @@ module _ (n m k : ℕ) (scores rows division chosen : List ℕ) (e : freePlanRef
 
   pub free-plan-fits : (length division ≡ n) × (length chosen ≡ k)
   free-plan-fits = buffers-fit n k division chosen (own-accepted n m k _ scores rows e)
+
+module _ (n m k : ℕ) (scores rows division chosen : List ℕ) (e : balancedPlanRefusal n m k scores rows division chosen ≡ 0) where
+  -- a balanced plan has a sound survey and a number of sites of 1 to m
+  pub balanced-plan-called : Called n m k scores rows
+  balanced-plan-called = called n m k _ scores rows e
+
+  -- neither 5 nor 6 applies
+  balanced-plan-own : (shareRefusal n k ≡ 0) × (buffersRefusal n k division chosen ≡ 0)
+  balanced-plan-own = or-zero (shareRefusal n k) (buffersRefusal n k division chosen) (own-accepted n m k _ scores rows e)
+
+  -- its sites have equal shares, which make up all streets
+  pub balanced-plan-even : k * (n / k) ≡ n
+  balanced-plan-even = even n k (balanced-plan-own .0)
+
+  -- its buffers have a place for each street and for each site
+  pub balanced-plan-fits : (length division ≡ n) × (length chosen ≡ k)
+  balanced-plan-fits = buffers-fit n k division chosen (balanced-plan-own .1)
+
+module _ (n m k : ℕ) (scores rows : List ℕ) (e : floorRefusal n m k scores rows ≡ 0) where
+  -- a floor has a sound survey and a number of sites of 1 to m
+  pub floor-called : Called n m k scores rows
+  floor-called = called n m k _ scores rows e
+
+  -- its sites have equal shares, which make up all streets
+  pub floor-even : k * (n / k) ≡ n
+  floor-even = even n k (own-accepted n m k _ scores rows e)

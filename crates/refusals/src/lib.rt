@@ -6,7 +6,7 @@ ghost use Prim.Native.Nat.{_%_};
 ghost use lib.ListN.{length};
 ghost use Rattle.counting.specs.Words.{_when_, _orElse_};
 ghost use Rattle.survey.specs.Refusals.{shareRefusal, lengthRefusal, surveyRefusal};
-ghost use Rattle.refusals.specs.Refusals.{rangeRefusal, rowScoreRefusal, rangesRefusal, twiceRefusal, listRefusal, listTotalRefusal, freeDivisionRefusal, balancedDivisionRefusal, buffersRefusal, freePlanRefusal};
+ghost use Rattle.refusals.specs.Refusals.{rangeRefusal, rowScoreRefusal, rangesRefusal, twiceRefusal, listRefusal, listTotalRefusal, freeDivisionRefusal, balancedDivisionRefusal, buffersRefusal, freePlanRefusal, balancedPlanRefusal, floorRefusal};
 
 // 6: a lent buffer of other than its exact length.
 fn length_refusal(given: usize, due: usize) -> u8
@@ -211,5 +211,40 @@ pub fn free_plan_refusal(
     ensures { λ r. ⌜ r ≡ freePlanRefusal n m k (now (scores .entry)) (now (rows .entry)) (now (division .entry)) (now (chosen .entry)) ⌝ }
 {
     let own = buffers_refusal(n, k, division, chosen);
+    check::survey_refusal(n, m, k, own, scores, rows)
+}
+
+// What a balanced plan is tried for besides: 5, then 6 for its two buffers.
+fn balanced_buffers_refusal(n: usize, k: usize, division: &[u8], chosen: &[u8]) -> u8
+    ensures { λ r. ⌜ r ≡ shareRefusal n k orElse buffersRefusal n k (now (division .entry)) (now (chosen .entry)) ⌝ }
+{
+    let r = share_refusal(n, k);
+    if r != 0 {
+        return r;
+    }
+    buffers_refusal(n, k, division, chosen)
+}
+
+// A balanced plan.
+pub fn balanced_plan_refusal(
+    n: usize,
+    m: usize,
+    k: usize,
+    scores: &[u16],
+    rows: &[u8],
+    division: &[u8],
+    chosen: &[u8],
+) -> u8
+    ensures { λ r. ⌜ r ≡ balancedPlanRefusal n m k (now (scores .entry)) (now (rows .entry)) (now (division .entry)) (now (chosen .entry)) ⌝ }
+{
+    let own = balanced_buffers_refusal(n, k, division, chosen);
+    check::survey_refusal(n, m, k, own, scores, rows)
+}
+
+// A floor.
+pub fn floor_refusal(n: usize, m: usize, k: usize, scores: &[u16], rows: &[u8]) -> u8
+    ensures { λ r. ⌜ r ≡ floorRefusal n m k (now (scores .entry)) (now (rows .entry)) ⌝ }
+{
+    let own = share_refusal(n, k);
     check::survey_refusal(n, m, k, own, scores, rows)
 }

@@ -1,0 +1,133 @@
+-- Laws of the walks along a line: what is counted or given so far, and what the rest of the line still adds, make up the whole.
+-- Assumes nothing.
+use mathlib.Core.Path.{_≡_, refl, sym, ap}
+use mathlib.Core.List.{List, [], _∷_}
+use mathlib.Core.Logic.{by-cases}
+use Prim.Native.Nat.{ℕ, zero, suc, _+_, _*_, _≤_, _<_}
+use native.Mathlib.Nat.{mul-le-mul}
+use native.Mathlib.Numerals.{add-one}
+use native.Mathlib.Decide.{ℕ-discrete}
+use native.Mathlib.Omega.{arith}
+use lib.ListN.{length, drop}
+use lib.Seq.{drop-cons, drop-length}
+use borrow.Author.Tests.{eq-eqb, ne-eqb}
+use Rattle.counting.specs.Lists.{at, sum}
+use Rattle.counting.proofs.Tables.{in-rows}
+use Rattle.values.specs.Table.{Table}
+use Rattle.balanced_plan.specs.Rounds.{give}
+use Rattle.balanced_rounds.specs.Lines.{picked, Stepped}
+
+-- a free street at the front of a line is the first that is picked
+picked-free : (division line : List ℕ) (s q : ℕ) → at division s ≡ 0 → picked (s ∷ line) (suc q) division ≡ s ∷ picked line q division
+picked-free division line s q e = rw (eq-eqb (at division s) 0 e) refl
+
+-- one that is given away is passed
+picked-past : (division line : List ℕ) (s q : ℕ) → (at division s ≡ 0 → ⊥) → picked (s ∷ line) q division ≡ picked line q division
+picked-past division line s q n = rw (ne-eqb (at division s) 0 n) refl
+
+-- none is picked where none is asked for
+picked-none : (division line : List ℕ) → picked line 0 division ≡ []
+picked-none division line = refl
+
+-- nor from an empty line
+picked-empty : (division : List ℕ) (q : ℕ) → picked [] q division ≡ []
+picked-empty division zero = refl
+picked-empty division (suc q) = refl
+
+-- the rest of a line from an index on begins with the street there
+rest-of : (line : List ℕ) (j : ℕ) → j < length line → drop j line ≡ at line j ∷ drop (j + 1) line
+rest-of line j l = rw add-one (drop-cons line j 0 l)
+
+-- nothing is left of a line past its end
+rest-none : (line : List ℕ) (j : ℕ) → length line ≤ j → j ≤ length line → drop j line ≡ []
+rest-none line j l m = let e : j ≡ length line = omega arith in rw e (drop-length line)
+
+-- a sum over the first q free streets of a line, of which the line from j on still has `left`
+pub record Adding (f : ℕ → ℕ) (line division : List ℕ) (q j left total : ℕ) : Type 0 where
+  pub room : total + left * 99000 ≤ q * 99000
+  pub rest : total + sum f (picked (drop j line) left division) ≡ sum f (picked line q division)
+
+module _ (f : ℕ → ℕ) (line division : List ℕ) (q : ℕ) where
+  -- nothing is added yet
+  pub adding-none : Adding f line division q 0 q 0
+  adding-none = record { room = omega arith; rest = omega arith }
+
+  -- one street more
+  pub adding-more : (j left total left′ total′ : ℕ) → j < length line → 0 < left → f (at line j) ≤ 99000 → Adding f line division q j left total
+      → Stepped f division (at line j) left total left′ total′ → Adding f line division q (j + 1) left′ total′
+  adding-more j left total left′ total′ l some small h step =
+      by-cases (ℕ-discrete (at division (at line j)) 0) (λ e. counted e (step .counted e)) (λ n. passed n (step .passed n))
+    where
+      counted : at division (at line j) ≡ 0 → (left′ + 1 ≡ left) × (total′ ≡ total + f (at line j)) → Adding f line division q (j + 1) left′ total′
+      counted e (a, b) =
+          let more : left ≡ suc left′ = omega arith in
+          let front : picked (drop j line) left division ≡ at line j ∷ picked (drop (j + 1) line) left′ division =
+          rw (rest-of line j l, more) (picked-free division (drop (j + 1) line) (at line j) left′ e) in
+          record { room = omega (arith, h .room); rest = omega (arith, h .rest, ap (sum f) front) }
+
+      passed : (at division (at line j) ≡ 0 → ⊥) → (left′ ≡ left) × (total′ ≡ total) → Adding f line division q (j + 1) left′ total′
+      passed n (a, b) =
+          let front : picked (drop j line) left division ≡ picked (drop (j + 1) line) left division =
+          rw (rest-of line j l) (picked-past division (drop (j + 1) line) (at line j) left n) in
+          record { room = omega (arith, h .room); rest = rw (a, b) (rw front at (h .rest)) }
+
+  -- none is left to be found
+  pub adding-done : (j left total : ℕ) → left ≡ 0 → Adding f line division q j left total → total ≡ sum f (picked line q division)
+  adding-done j left total e h = let whole = rw e at (h .rest) in omega (arith, whole)
+
+  -- or the line has come to its end
+  pub adding-end : (j left total : ℕ) → length line ≤ j → j ≤ length line → Adding f line division q j left total → total ≡ sum f (picked line q division)
+  adding-end j left total l m h =
+      let none : sum f (picked (drop j line) left division) ≡ 0 = rw (rest-none line j l m, picked-empty division left) refl in
+      omega (arith, h .rest)
+
+-- the first q free streets of a line given to a site, of which the line from j on still has `left`
+pub record Giving (a : ℕ) (line before start : List ℕ) (q j left : ℕ) (division : List ℕ) : Type 0 where
+  pub long : length division ≡ length before
+  pub rest : give a (picked (drop j line) left before) division ≡ give a (picked line q before) start
+
+module _ (a : ℕ) (line before start : List ℕ) (q : ℕ) where
+  -- none is given yet
+  pub giving-none : length before ≡ length start → Giving a line before start q 0 q start
+  giving-none e = record { long = sym e; rest = refl }
+
+  -- one street more
+  pub giving-more : (j left left′ : ℕ) (division division′ : List ℕ) → j < length line → 0 < left → length division′ ≡ length division
+      → Giving a line before start q j left division
+      → (at before (at line j) ≡ 0 → (left′ + 1 ≡ left) × (division′ ≡ give a (at line j ∷ []) division))
+      → ((at before (at line j) ≡ 0 → ⊥) → (left′ ≡ left) × (division′ ≡ division))
+      → Giving a line before start q (j + 1) left′ division′
+  giving-more j left left′ division division′ l some size h given passed =
+      by-cases (ℕ-discrete (at before (at line j)) 0) (λ e. yes-given e (given e)) (λ n. not-given n (passed n))
+    where
+      yes-given : at before (at line j) ≡ 0 → (left′ + 1 ≡ left) × (division′ ≡ give a (at line j ∷ []) division)
+          → Giving a line before start q (j + 1) left′ division′
+      yes-given e (x, y) =
+          let more : left ≡ suc left′ = omega arith in
+          let front : picked (drop j line) left before ≡ at line j ∷ picked (drop (j + 1) line) left′ before =
+          rw (rest-of line j l, more) (picked-free before (drop (j + 1) line) (at line j) left′ e) in
+          record { long = omega (arith, h .long); rest = rw y (rw front at (h .rest)) }
+
+      not-given : (at before (at line j) ≡ 0 → ⊥) → (left′ ≡ left) × (division′ ≡ division) → Giving a line before start q (j + 1) left′ division′
+      not-given n (x, y) =
+          let front : picked (drop j line) left before ≡ picked (drop (j + 1) line) left before =
+          rw (rest-of line j l) (picked-past before (drop (j + 1) line) (at line j) left n) in
+          record { long = omega (arith, h .long); rest = rw (x, y) (rw front at (h .rest)) }
+
+  -- all are given
+  pub giving-done : (j left : ℕ) (division : List ℕ) → left ≡ 0 → Giving a line before start q j left division → division ≡ give a (picked line q before) start
+  giving-done j left division e h = rw e at (h .rest)
+
+  -- or the line has come to its end
+  pub giving-end : (j left : ℕ) (division : List ℕ) → length line ≤ j → j ≤ length line → Giving a line before start q j left division
+      → division ≡ give a (picked line q before) start
+  giving-end j left division l m h =
+      let none : picked (drop j line) left before ≡ [] = rw (rest-none line j l m) (picked-empty before left) in
+      rw none at (h .rest)
+
+-- the cell of a street and a site lies in the table, which is small
+pub cell-fits : (n m : ℕ) (values : List ℕ) → Table n m values → (s a : ℕ) → s < n → a ≤ m → (s * (m + 1) + a < length values) × (length values ≤ 26000)
+cell-fits n m values t s a l o = (
+  omega (arith, in-rows s n (m + 1) a l (omega arith), t .size),
+  omega (arith, t .size, mul-le-mul {n₁ = n} {m₁ = m + 1} {n₂ = 400} {m₂ = 65} (t .few-streets) (omega (arith, t .few-sites))),
+)

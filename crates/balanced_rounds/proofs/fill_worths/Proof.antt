@@ -1,0 +1,66 @@
+-- `balanced_rounds::fill_worths` meets its contract. Assumes nothing.
+use borrow.Author.Needs.{needs}
+use native.Mathlib.Omega.{arith}
+use mathlib.Core.Path.{_≡_, refl}
+use lib.ListN.{length}
+use Prim.Native.Nat.{_-_, _≤_}
+use Rattle.counting.specs.Lists.{sum}
+use Rattle.values.specs.Table.{valueIn}
+use mathlib.Core.Bool.{false}
+use lib.ListN.{getD}
+use Rattle.counting.specs.Words.{_unless_}
+use Rattle.counting.specs.Buffers.{Mapped}
+use Rattle.counting.proofs.Filling.{mapped-none, mapped-more}
+use Rattle.survey.specs.Rows.{rowOf}
+use Rattle.balanced_rounds.specs.Lines.{picked}
+use Rattle.balanced_rounds.proofs.fill_worths.Statement.{statement}
+use Rattle.balanced_rounds.proofs.fill_worths.Tie as tie
+
+abbrev Inv-loop : tie.InvT-loop
+Inv-loop values orders division marks m q worths₀ a₀ a-end worths a = (a ≤ a-end) × (a-end ≡ length worths₀) × Mapped (λ b x. sum (λ s. valueIn values m s b) (picked (rowOf (length division) orders b) q division) unless getD marks b false) worths₀ worths a
+
+abbrev μ-loop : tie.MeasureT-loop
+μ-loop values orders division marks m q worths₀ a₀ a-end worths a = a-end - a
+
+loop-holds : tie.Need-loop-holds Inv-loop μ-loop
+loop-holds c = (search needs, refl, mapped-none _ _)
+
+worth-of-requires : tie.Need-worth-of-requires Inv-loop μ-loop
+worth-of-requires c κs = let p = c .before .before .before .before .before .before .before .pre in let l = c .before .loop in (p .0, (p .1 .0, omega (arith, p .1 .2), p .1 .1))
+
+mul-worths : tie.Need-mul-worths Inv-loop μ-loop
+mul-worths c = search needs
+
+slice-write-worths : tie.Need-slice-write-worths Inv-loop μ-loop
+slice-write-worths c = search needs
+
+add-a : tie.Need-add-a Inv-loop μ-loop
+add-a c = search needs
+
+loop-less : tie.Need-loop-less Inv-loop μ-loop
+loop-less c = search needs
+
+loop-again : tie.Need-loop-again Inv-loop μ-loop
+loop-again c = let l = c .before .before .loop in (omega arith, refl, mapped-more _ _ (l .worths) (l .a) _ (omega arith) (l .inv .2) (c .worth-of .ensures))
+
+same-length : tie.Need-same-length Inv-loop μ-loop
+same-length c = search needs
+
+returns : tie.Need-returns Inv-loop μ-loop
+returns c = let l = c .before .loop in λ x y. l .inv .2 .done x (omega (arith, c .before .before .before .before .before .before .before .pre .1 .2))
+
+pub fill-worths-spec : {M : Type 1} → statement M
+fill-worths-spec =
+    tie.close
+    (tie.spec
+    Inv-loop
+    μ-loop
+    loop-holds
+    worth-of-requires
+    mul-worths
+    slice-write-worths
+    add-a
+    loop-less
+    loop-again
+    same-length
+    returns)

@@ -1,0 +1,50 @@
+-- What the engine of the balanced rounds holds and walks: for each site a line of all streets in the site's order, and the state that
+-- passes from round to round.
+-- Assumes nothing.
+use mathlib.Core.Path.{_≡_}
+use mathlib.Core.Bool.{true, false}
+use mathlib.Core.List.{List}
+use Prim.Native.Nat.{ℕ, _+_, _*_, _≤_, _<_}
+use lib.ListN.{length, take, replicate}
+use Rattle.counting.specs.Lists.{at, only}
+use Rattle.counting.specs.Marks.{Marks}
+use Rattle.survey.specs.Rows.{rowOf}
+use Rattle.balanced_plan.specs.Rounds as plan
+use Rattle.balanced_rounds.specs.declared.State.{State}
+
+-- the first q streets of a line that are free
+abbrev pub picked : List ℕ → ℕ → List ℕ → List ℕ
+picked line q division = take q (only (plan.free division) line)
+
+-- the lines are the sites' orders by a key
+abbrev pub Orders : (ℕ → ℕ → ℕ) → ℕ → ℕ → List ℕ → Type 0
+Orders key n m orders = (a : ℕ) → a ≤ m → rowOf n orders a ≡ plan.ordered (key a) (λ s. true) n
+
+-- a line of streets of a division
+pub record Line (line division : List ℕ) : Type 0 where
+  pub streets : (i : ℕ) → i < length line → at line i < length division
+  pub few : length division ≤ 400
+
+-- lines of n streets for the sites 0 to m
+pub record Lines (n m : ℕ) (orders : List ℕ) : Type 0 where
+  pub size : length orders ≡ (m + 1) * n
+  pub streets : (i : ℕ) → i < length orders → at orders i < n
+
+-- one street more of a walk: a free one is counted, with f of it, and another is passed
+pub record Stepped (f : ℕ → ℕ) (division : List ℕ) (s left total left′ total′ : ℕ) : Type 0 where
+  pub counted : at division s ≡ 0 → (left′ + 1 ≡ left) × (total′ ≡ total + f s)
+  pub passed : (at division s ≡ 0 → ⊥) → (left′ ≡ left) × (total′ ≡ total)
+
+-- the plan's state that an engine's state stands for
+abbrev pub stateOf : ℕ → State → plan.State
+stateOf n state = record { chosen = take (state .count) (state .chosen); division = take n (state .division) }
+
+-- the state before the first round
+abbrev pub emptyState : State
+emptyState = record { chosen = replicate 64 0; count = 0; marks = replicate 256 false; division = replicate 400 0 }
+
+-- the state's arrays have their lengths, and its flags are those of its sites
+pub record Held (state : State) : Type 0 where
+  pub chosen-size : length (state .chosen) ≡ 64
+  pub division-size : length (state .division) ≡ 400
+  pub marks : Marks (state .marks) (take (state .count) (state .chosen))

@@ -1,0 +1,149 @@
+// The balanced plan's rounds: a state that holds the sites chosen so far and each street's site, passed by value from round to round.
+ghost use mathlib.Core.Path.{_≡_};
+ghost use mathlib.Core.Bool.{false};
+ghost use Prim.Native.Nat.{ℕ, _+_, _≤_, _<_};
+ghost use lib.ListN.{length, getD};
+ghost use Rattle.counting.specs.Words.{_unless_};
+ghost use Rattle.counting.specs.Lists.{at, sum};
+ghost use Rattle.counting.specs.Choice.{greatest};
+ghost use Rattle.survey.specs.Rows.{rowOf};
+ghost use Rattle.values.specs.Table.{Table, valueIn};
+ghost use Rattle.free_rounds.specs.Held.{unflagged};
+ghost use Rattle.balanced_plan.specs.Rounds.{worth, choice, taken, rounds, evenShare};
+ghost use Rattle.balanced_rounds.specs.Lines.{Orders, Lines, Held, picked, stateOf, emptyState};
+
+mod walks;
+
+// The sites chosen so far in order of choice, a flag for each of them, and each street's site, 0 while it is free.
+pub struct State {
+    pub chosen: [u8; 64],
+    pub count: usize,
+    pub marks: [bool; 256],
+    pub division: [u8; 400],
+}
+
+// The worth of the site a, 0 where it is chosen.
+fn worth_of(
+    values: &[u32],
+    orders: &[u16],
+    division: &[u8],
+    marks: &[bool],
+    m: usize,
+    q: usize,
+    a: usize,
+) -> u32
+    requires { ⌜ Table (length (now division)) m (now values) × Lines (length (now division)) m (now orders) ⌝ }
+    requires { ⌜ (length (now marks) ≡ 256) × (a ≤ m) × (q ≤ 400) ⌝ }
+    ensures { λ r. ⌜ r ≡ sum (λ s. valueIn (now (values .entry)) m s a) (picked (rowOf (length (now (division .entry))) (now (orders .entry)) a) q (now (division .entry))) unless getD (now (marks .entry)) a false ⌝ }
+{
+    if marks[a] {
+        return 0;
+    }
+    let n = division.len();
+    let from = a * n;
+    let to = from + n;
+    walks::worth(values, m, &orders[from..to], division, q, a)
+}
+
+// The worths of all sites.
+fn fill_worths(
+    values: &[u32],
+    orders: &[u16],
+    division: &[u8],
+    marks: &[bool],
+    m: usize,
+    q: usize,
+    worths: &mut [u32],
+)
+    requires { ⌜ Table (length (now division)) m (now values) × Lines (length (now division)) m (now orders) ⌝ }
+    requires { ⌜ (length (now marks) ≡ 256) × (q ≤ 400) × (length (now worths) ≡ m + 1) ⌝ }
+    ensures { λ _. ⌜ ((a : ℕ) → a ≤ m → at (now (worths .exit)) a ≡ sum (λ s. valueIn (now (values .entry)) m s a) (picked (rowOf (length (now (division .entry))) (now (orders .entry)) a) q (now (division .entry))) unless getD (now (marks .entry)) a false) ⌝ }
+{
+    for a in 0..worths.len() {
+        worths[a] = worth_of(values, orders, division, marks, m, q, a);
+    }
+}
+
+// The choice of a round: the unchosen site of greatest worth, the lowest number on a tie.
+fn choose(
+    values: &[u32],
+    orders: &[u16],
+    division: &[u8],
+    marks: &[bool],
+    m: usize,
+    q: usize,
+) -> usize
+    requires { ⌜ Table (length (now division)) m (now values) × Lines (length (now division)) m (now orders) ⌝ }
+    requires { ⌜ (length (now marks) ≡ 256) × (q ≤ 400) ⌝ }
+    ensures site { λ r. ⌜ r ≤ m ⌝ }
+    ensures choice { λ r. ⌜ ((key : ℕ → ℕ → ℕ) → Orders key (length (now (division .entry))) m (now (orders .entry)) → r ≡ greatest (unflagged (now (marks .entry))) (worth (valueIn (now (values .entry)) m) key q (now (division .entry))) m) ⌝ }
+{
+    let width = m + 1;
+    let mut worths = [0u32; 65];
+    fill_worths(values, orders, division, marks, m, q, &mut worths[..width]);
+    free_rounds::pick::best_site(&worths[..width], marks, m)
+}
+
+impl State {
+    // No site is chosen, and every street is free.
+    pub fn empty() -> Self
+        ensures { λ r. ⌜ r ≡ emptyState ⌝ }
+    {
+        Self {
+            chosen: [0u8; 64],
+            count: 0,
+            marks: [false; 256],
+            division: [0u8; 400],
+        }
+    }
+
+    // The state once a site has been chosen and has taken its streets.
+    fn taking(mut self, orders: &[u16], n: usize, m: usize, q: usize, site: u8) -> Self
+        requires { ⌜ Lines n m (now orders) × (n ≤ 400) ⌝ }
+        requires { ⌜ Held self × (self .count < 64) × (site ≤ m) × (m ≤ 64) ⌝ }
+        ensures held { λ r. ⌜ Held r × (r .count ≡ self .count + 1) ⌝ }
+        ensures state { λ r. ⌜ ((key : ℕ → ℕ → ℕ) → Orders key n m (now (orders .entry)) → stateOf n r ≡ taken key q (stateOf n self) site) ⌝ }
+    {
+        let at = self.count;
+        let flag = site as usize;
+        let from = flag * n;
+        let to = from + n;
+        let before = self.division;
+        let mut division = self.division;
+        walks::give_lot(&orders[from..to], &before[..n], &mut division[..n], q, site);
+        self.chosen[at] = site;
+        self.count = at + 1;
+        self.marks[flag] = true;
+        self.division = division;
+        self
+    }
+
+    // One round: the site of greatest worth is chosen and takes its streets.
+    pub fn round(mut self, values: &[u32], orders: &[u16], n: usize, m: usize, q: usize) -> Self
+        requires { ⌜ Table n m (now values) × Lines n m (now orders) ⌝ }
+        requires { ⌜ Held self × (self .count < 64) × (q ≤ 400) ⌝ }
+        ensures held { λ r. ⌜ Held r × (r .count ≡ self .count + 1) ⌝ }
+        ensures state { λ r. ⌜ ((key : ℕ → ℕ → ℕ) → Orders key n m (now (orders .entry)) → stateOf n r ≡ taken key q (stateOf n self) (choice (valueIn (now (values .entry)) m) key m q (stateOf n self))) ⌝ }
+    {
+        let division = self.division;
+        let marks = self.marks;
+        let site = choose(values, orders, &division[..n], &marks, m, q);
+        self = self.taking(orders, n, m, q, site as u8);
+        self
+    }
+}
+
+// The state after k rounds, each with the share n / k.
+pub fn rounds(values: &[u32], orders: &[u16], n: usize, m: usize, k: usize) -> State
+    requires { ⌜ Table n m (now values) × Lines n m (now orders) ⌝ }
+    requires { ⌜ (0 < k) × (k ≤ m) ⌝ }
+    ensures held { λ r. ⌜ Held r × (r .count ≡ k) ⌝ }
+    ensures state { λ r. ⌜ ((key : ℕ → ℕ → ℕ) → Orders key n m (now (orders .entry)) → stateOf n r ≡ rounds (valueIn (now (values .entry)) m) key n m (evenShare n k) k) ⌝ }
+{
+    let q = n / k;
+    let mut state = State::empty();
+    for i in 0..k {
+        state = state.round(values, orders, n, m, q);
+    }
+    state
+}

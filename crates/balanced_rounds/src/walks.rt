@@ -1,0 +1,76 @@
+// Walks along a site's line of streets, past the streets that are already given away.
+ghost use mathlib.Core.Path.{_≡_};
+ghost use mathlib.Core.List.{_∷_, []};
+ghost use Prim.Native.Nat.{_+_, _*_, _≤_, _<_};
+ghost use lib.ListN.{length};
+ghost use Rattle.counting.specs.Lists.{at, sum};
+ghost use Rattle.values.specs.Table.{Table, valueIn};
+ghost use Rattle.balanced_plan.specs.Rounds.{give};
+ghost use Rattle.balanced_rounds.specs.Lines.{Line, Stepped, picked};
+
+// How many streets are still to be found, and the sum of those found so far.
+struct Tally {
+    left: usize,
+    total: u32,
+}
+
+// One street more: a free one is counted.
+fn step(tally: Tally, values: &[u32], m: usize, division: &[u8], s: usize, a: usize) -> Tally
+    requires { ⌜ Table (length (now division)) m (now values) × (s < length (now division)) × (a ≤ m) ⌝ }
+    requires { ⌜ (0 < tally .left) × (tally .total ≤ 39600000) ⌝ }
+    ensures { λ r. ⌜ Stepped (λ t. valueIn (now (values .entry)) m t a) (now (division .entry)) s (tally .left) (tally .total) (r .left) (r .total) ⌝ }
+{
+    if division[s] != 0 {
+        return tally;
+    }
+    let w = m + 1;
+    Tally {
+        left: tally.left - 1,
+        total: tally.total + values[s * w + a],
+    }
+}
+
+// The worth of a site: the summed value of the first q streets of its line that are free.
+pub fn worth(values: &[u32], m: usize, line: &[u16], division: &[u8], q: usize, a: usize) -> u32
+    requires { ⌜ Table (length (now division)) m (now values) × Line (now line) (now division) ⌝ }
+    requires { ⌜ (a ≤ m) × (q ≤ 400) ⌝ }
+    ensures { λ r. ⌜ r ≡ sum (λ s. valueIn (now (values .entry)) m s a) (picked (now (line .entry)) q (now (division .entry))) ⌝ }
+{
+    let mut tally = Tally { left: q, total: 0 };
+    for j in 0..line.len() {
+        if tally.left == 0 {
+            return tally.total;
+        }
+        let s = line[j] as usize;
+        tally = step(tally, values, m, division, s, a);
+    }
+    tally.total
+}
+
+// One street more: a free one is given to the site a. Returns how many are still to be given.
+fn hand(before: &[u8], division: &mut [u8], s: usize, left: usize, a: u8) -> usize
+    requires { ⌜ (length (now before) ≡ length (now division)) × (s < length (now division)) × (0 < left) ⌝ }
+    ensures given { λ r. ⌜ (at (now (before .entry)) s ≡ 0 → (r + 1 ≡ left) × (now (division .exit) ≡ give a (s ∷ []) (now (division .entry)))) ⌝ }
+    ensures passed { λ r. ⌜ ((at (now (before .entry)) s ≡ 0 → ⊥) → (r ≡ left) × (now (division .exit) ≡ now (division .entry))) ⌝ }
+{
+    if before[s] != 0 {
+        return left;
+    }
+    division[s] = a;
+    left - 1
+}
+
+// The first q streets of a line that are free, by the division before, are given to the site a.
+pub fn give_lot(line: &[u16], before: &[u8], division: &mut [u8], q: usize, a: u8)
+    requires { ⌜ Line (now line) (now before) × (length (now before) ≡ length (now division)) ⌝ }
+    ensures { λ _. ⌜ now (division .exit) ≡ give a (picked (now (line .entry)) q (now (before .entry))) (now (division .entry)) ⌝ }
+{
+    let mut left = q;
+    for j in 0..line.len() {
+        if left == 0 {
+            return;
+        }
+        let s = line[j] as usize;
+        left = hand(before, division, s, left, a);
+    }
+}

@@ -1,0 +1,66 @@
+-- Laws of the floor's functions: one street more, what a round is sure of, and how much it adds at most.
+-- Assumes nothing.
+use mathlib.Core.Path.{_≡_, ap, _∙_}
+use mathlib.Mathlib.Data.Bool.Basic.{dichotomy}
+use mathlib.Core.Logic.{⊎-elim}
+use mathlib.Core.List.{List}
+use Prim.Native.Nat.{ℕ, _+_, _-_, _*_, _/_, _≤_, _<_, min}
+use native.Mathlib.Nat.{le-antisymm, mul-le-mul, div-le-self}
+use native.Mathlib.Numerals.{add-one}
+use native.Mathlib.Omega.{arith}
+use lib.Dec.{leb}
+use lib.ListN.{length}
+use borrow.Author.Tests.{le-leb, lt-leb}
+use Rattle.counting.specs.Words.{sumOf}
+use Rattle.counting.proofs.Refusals.{when-yes, when-none}
+use Rattle.counting.proofs.Sums.{sumOf-next, sum-end}
+use Rattle.survey.specs.Rows.{listOfStreet, scoreAt, shortest}
+use Rattle.survey.specs.Accepted.{SoundScores}
+use Rattle.survey.proofs.Places.{score-bound}
+use Rattle.balanced_plan.specs.Rounds.{evenShare}
+use Rattle.balanced_plan.specs.Floor.{ceil, depth, sure, added, floor}
+
+-- the shortest list with one street more
+pub shortest-next : (m : ℕ) (rows : List ℕ) (s x y z : ℕ) → x ≡ shortest s m rows → y ≡ length (listOfStreet m rows s) → z ≡ min x y
+    → z ≡ shortest (s + 1) m rows
+shortest-next m rows s x y z e f g = rw (add-one s) (g ∙ ap (λ (u : ℕ). min u y) e ∙ ap (min (shortest s m rows)) f)
+
+-- and at the end that of all
+pub shortest-end : (n m : ℕ) (rows : List ℕ) (s x : ℕ) → n ≤ s → s ≤ n → x ≡ shortest s m rows → x ≡ shortest n m rows
+shortest-end n m rows s x a b e = rw (le-antisymm b a) at e
+
+-- a quotient that is rounded up is no more than the number and the divisor together
+pub ceil-most : (a b r : ℕ) → r ≡ ceil a b → r ≤ a + b
+ceil-most a b r e = omega (arith, div-le-self (a + (b - 1)) b)
+
+module _ (score : ℕ → ℕ) (t m k i r : ℕ) (e : r ≡ ceil (m - i) (k - i)) where
+  -- the place that was computed is the round's
+  place-is : i + r ≡ depth m k i
+  place-is = ap (λ (x : ℕ). i + x) e
+
+  -- a round whose place some list does not reach is sure of nothing
+  pub sure-none : t < i + r → 0 ≡ sure score t m k i
+  sure-none l = rw place-is at (when-none (score (i + r)) (leb (i + r) t) (lt-leb (i + r) t l))
+
+  -- one whose place every list reaches is sure of its score
+  pub sure-score : (x : ℕ) → i + r ≤ t → x ≡ score (i + r) → x ≡ sure score t m k i
+  sure-score x l f = rw place-is at (f ∙ when-yes (score (i + r)) (leb (i + r) t) (le-leb (i + r) t l))
+
+-- what a round adds: its share of at most 400 streets, with a score of at most 1,000 for each
+pub added-is : (scores : List ℕ) (n t m k i x : ℕ) → SoundScores scores → n ≤ 400 → x ≡ sure (scoreAt scores) t m k i
+    → (n / k * x ≡ added (evenShare n k) (scoreAt scores) t m k i) × (n / k * x ≤ 400000)
+added-is scores n t m k i x sound few e =
+    let p : ℕ = depth m k i in
+    let score : ℕ = scoreAt scores p in
+    let low : x ≤ 1000 =
+    ⊎-elim (λ o. omega (arith, when-none score (leb p t) o)) (λ y. omega (arith, when-yes score (leb p t) y, score-bound scores p sound)) (dichotomy (leb p t)) in
+    (ap (λ (y : ℕ). n / k * y) e, mul-le-mul {n₁ = n / k} {m₁ = x} {n₂ = 400} {m₂ = 1000} (omega (arith, div-le-self n k)) low)
+
+-- the sum with one round more
+pub sum-more : (f : ℕ → ℕ) (i x y : ℕ) → x ≡ sumOf i f → y ≡ f i → x + y ≡ sumOf (i + 1) f
+sum-more f i x y e g = omega (arith, sumOf-next i f)
+
+-- and at the end the floor, by the shortest list that was found
+pub floor-end : (q score : ℕ → ℕ) (t least m k i x : ℕ) → t ≡ least → k ≤ i → i ≤ k → x ≡ sumOf i (added q score t m k)
+    → x ≡ floor q score least m k
+floor-end q score t least m k i x e a b h = sum-end (added q score least m k) i k x a b (rw e at h)

@@ -1,0 +1,37 @@
+-- `floors::added` meets its contract. Assumes nothing.
+use borrow.Author.Needs.{needs}
+use native.Mathlib.Nat.{div-le-self}
+use native.Mathlib.Omega.{arith}
+use Rattle.floors.proofs.Turns.{added-is}
+use Rattle.floors.proofs.added.Statement.{statement}
+use Rattle.floors.proofs.added.Tie as tie
+
+sure-requires : tie.Need-sure-requires
+sure-requires c κs = search needs
+
+div-result : tie.Need-div-result
+div-result c = search needs
+
+cast-result : tie.Need-cast-result
+cast-result c =
+    let s = c .before .before in
+    omega (arith, s .pre .1, div-le-self (s .args .n) (s .args .k))
+
+cast-result-2 : tie.Need-cast-result-2
+cast-result-2 c = search needs
+
+mul-result : tie.Need-mul-result
+mul-result c =
+    let a = c .before .before .args in
+    let p = c .before .before .pre in
+    omega (arith, added-is (a .scores .now) (a .n) (a .t) (a .m) (a .k) (a .i) _ (p .0) (p .1 .0) (c .sure .ensures) .1)
+
+returns : tie.Need-returns
+returns c =
+    let a = c .before .before .args in
+    let p = c .before .before .pre in
+    added-is (a .scores .now) (a .n) (a .t) (a .m) (a .k) (a .i) _ (p .0) (p .1 .0) (c .sure .ensures)
+
+pub added-spec : {M : Type 1} → statement M
+added-spec =
+    tie.close (tie.spec sure-requires div-result cast-result cast-result-2 mul-result returns)

@@ -1,0 +1,67 @@
+-- `floors::floor` meets its contract. Assumes nothing.
+use borrow.Author.Needs.{needs}
+use mathlib.Core.Path.{_≡_}
+use Prim.Native.Nat.{_-_, _*_, _≤_}
+use native.Mathlib.Omega.{arith}
+use Rattle.counting.specs.Words.{sumOf}
+use Rattle.survey.specs.Rows.{scoreAt}
+use Rattle.balanced_plan.specs.Rounds.{evenShare}
+use Rattle.balanced_plan.specs.Floor.{added}
+use Rattle.floors.proofs.Turns.{sum-more, floor-end}
+use Rattle.floors.proofs.floor.Statement.{statement}
+use Rattle.floors.proofs.floor.Tie as tie
+
+abbrev Inv-loop : tie.InvT-loop
+Inv-loop n m k scores rows t total₀ i₀ total i = (i ≤ k) × (total ≡ sumOf i (added (evenShare n k) (scoreAt scores) t m k)) × (total ≤ i * 400000)
+
+abbrev μ-loop : tie.MeasureT-loop
+μ-loop n m k scores rows t total₀ i₀ total i = k - i
+
+shortest-requires : tie.Need-shortest-requires Inv-loop μ-loop
+shortest-requires c κs = search needs
+
+loop-holds : tie.Need-loop-holds Inv-loop μ-loop
+loop-holds c = search needs
+
+added-requires : tie.Need-added-requires Inv-loop μ-loop
+added-requires c κs = search needs
+
+add-total : tie.Need-add-total Inv-loop μ-loop
+add-total c = search needs
+
+add-i : tie.Need-add-i Inv-loop μ-loop
+add-i c = search needs
+
+loop-less : tie.Need-loop-less Inv-loop μ-loop
+loop-less c = search needs
+
+loop-again : tie.Need-loop-again Inv-loop μ-loop
+loop-again c =
+    let a = c .before .before .before .before .before .before .args in
+    let l = c .before .before .loop in
+    let t = c .before .before .before .shortest .result in
+    let f = added (evenShare (a .n) (a .k)) (scoreAt (a .scores .now)) t (a .m) (a .k) in
+    (omega arith, sum-more f (l .i) _ _ (l .inv .1) (c .added .ensures .0), omega arith)
+
+returns : tie.Need-returns Inv-loop μ-loop
+returns c =
+    let a = c .before .before .before .before .before .args in
+    let l = c .before .loop in
+    let call = c .before .before .shortest in
+    floor-end (evenShare (a .n) (a .k)) (scoreAt (a .scores .now)) (call .result) _ (a .m) (a .k) (l .i) _ (call .ensures) (omega arith) (omega arith)
+    (l .inv .1)
+
+pub floor-spec : {M : Type 1} → statement M
+floor-spec =
+    tie.close
+    (tie.spec
+    Inv-loop
+    μ-loop
+    shortest-requires
+    loop-holds
+    added-requires
+    add-total
+    add-i
+    loop-less
+    loop-again
+    returns)

@@ -1,0 +1,81 @@
+// The floor of the balanced plan: over the rounds, what each is sure of for the streets of its share.
+use survey::rows;
+ghost use mathlib.Core.Path.{_≡_};
+ghost use Prim.Native.Nat.{_+_, _*_, _≤_, _<_, min};
+ghost use lib.ListN.{length};
+ghost use Rattle.survey.specs.Rows.{listOfStreet, scoreAt, shortest};
+ghost use Rattle.survey.specs.Accepted.{SoundScores, Accepted};
+ghost use Rattle.balanced_plan.specs.Rounds.{evenShare};
+ghost use Rattle.balanced_plan.specs.Floor.{ceil, sure, added, floor};
+
+// A quotient, rounded up.
+fn rounded_up(a: usize, b: usize) -> usize
+    requires { ⌜ (0 < b) × (b ≤ 64) × (a ≤ 64) ⌝ }
+    ensures { λ r. ⌜ r ≡ ceil a b ⌝ }
+{
+    (a + (b - 1)) / b
+}
+
+// The lesser of two lengths.
+fn lesser(x: usize, y: usize) -> usize
+    ensures { λ r. ⌜ r ≡ min x y ⌝ }
+{
+    if x < y { x } else { y }
+}
+
+// The length of a street's list.
+fn list_length(m: usize, rows: &[u8], s: usize) -> usize
+    requires { ⌜ s * m + m ≤ length (now rows) ⌝ }
+    ensures { λ r. ⌜ r ≡ length (listOfStreet m (now (rows .entry)) s) ⌝ }
+{
+    let from = s * m;
+    let to = from + m;
+    rows::ranked(&rows[from..to]).len()
+}
+
+// The length of the shortest list.
+fn shortest(n: usize, m: usize, rows: &[u8]) -> usize
+    requires { ⌜ length (now rows) ≡ n * m ⌝ }
+    ensures { λ r. ⌜ r ≡ shortest n m (now (rows .entry)) ⌝ }
+{
+    let mut least = m;
+    for s in 0..n {
+        least = lesser(least, list_length(m, rows, s));
+    }
+    least
+}
+
+// The score that the round i is sure of for each street of its share: that at its place, where every list is so long.
+fn sure(scores: &[u16], t: usize, m: usize, k: usize, i: usize) -> u16
+    requires { ⌜ (i < k) × (k ≤ m) × (m ≤ 64) ⌝ }
+    ensures { λ r. ⌜ r ≡ sure (scoreAt (now (scores .entry))) t m k i ⌝ }
+{
+    let place = i + rounded_up(m - i, k - i);
+    if t < place {
+        return 0;
+    }
+    rows::score_at(scores, place)
+}
+
+// What the round i adds.
+fn added(scores: &[u16], t: usize, n: usize, m: usize, k: usize, i: usize) -> u32
+    requires { ⌜ SoundScores (now scores) ⌝ }
+    requires { ⌜ (n ≤ 400) × (m ≤ 64) × (k ≤ m) × (i < k) ⌝ }
+    ensures { λ r. ⌜ (r ≡ added (evenShare n k) (scoreAt (now (scores .entry))) t m k i) × (r ≤ 400000) ⌝ }
+{
+    let score = sure(scores, t, m, k, i);
+    (n / k) as u32 * score as u32
+}
+
+// The floor of k rounds: the sum of what they add.
+pub fn floor(n: usize, m: usize, k: usize, scores: &[u16], rows: &[u8]) -> u32
+    requires { ⌜ Accepted n m (now scores) (now rows) × (1 ≤ k) × (k ≤ m) ⌝ }
+    ensures { λ r. ⌜ r ≡ floor (evenShare n k) (scoreAt (now (scores .entry))) (shortest n m (now (rows .entry))) m k ⌝ }
+{
+    let t = shortest(n, m, rows);
+    let mut total: u32 = 0;
+    for i in 0..k {
+        total = total + added(scores, t, n, m, k, i);
+    }
+    total
+}

@@ -1,0 +1,99 @@
+-- `keys::fill_keys` meets its contract. Assumes nothing.
+use borrow.Author.Needs.{needs}
+use mathlib.Core.Path.{sym, _∙_}
+use Prim.Native.Nat.{_+_, _*_, _≤_, _-_}
+use native.Mathlib.Omega.{arith}
+use lib.ListN.{length}
+use Rattle.counting.proofs.Tables.{row-within}
+use Rattle.keys.proofs.Filling.{Filled, filled-none, filled-all, filled-more, street-sound, street-room, street-unkeyed}
+use Rattle.keys.proofs.fill_keys.Statement.{statement}
+use Rattle.keys.proofs.fill_keys.Tie as tie
+
+abbrev Inv-loop : tie.InvT-loop
+Inv-loop n m rows keys₀ s₀ keys s = (s ≤ n) × Filled n m rows keys s
+
+abbrev μ-loop : tie.MeasureT-loop
+μ-loop n m rows keys₀ s₀ keys s = n - s
+
+-- in a turn: the street's row ends within the rows
+ends : (c : tie.In-loop Inv-loop μ-loop) →
+    let a = c .before .before .before .before .before .before .before .before .args in
+    c .before .loop .s * a .m + a .m ≤ length (a .rows .now)
+ends c =
+    let a = c .before .before .before .before .before .before .before .before .args in
+    let ok = c .before .before .before .before .before .before .before .before .pre .0 in
+    omega (arith, row-within (a .n) (a .m) (c .before .loop .s) (omega arith), ok .rows-fit)
+
+add-fill-last : tie.Need-add-fill-last Inv-loop μ-loop
+add-fill-last c = search needs
+
+cast-fill-last : tie.Need-cast-fill-last Inv-loop μ-loop
+cast-fill-last c = search needs
+
+fill-last-requires : tie.Need-fill-last-requires Inv-loop μ-loop
+fill-last-requires c κs = search needs
+
+loop-holds : tie.Need-loop-holds Inv-loop μ-loop
+loop-holds c = (search needs, filled-none _ _ _ _ _ (c .before .before .before .before .before .before .pre .1) (c .before .before .fill-last .ensures))
+
+mul-low : tie.Need-mul-low Inv-loop μ-loop
+mul-low c = omega (arith, ends c)
+
+add-high : tie.Need-add-high Inv-loop μ-loop
+add-high c = omega (arith, ends c)
+
+sub-fill-street : tie.Need-sub-fill-street Inv-loop μ-loop
+sub-fill-street c = search needs
+
+part-fill-street-start : tie.Need-part-fill-street-start Inv-loop μ-loop
+part-fill-street-start c = search needs
+
+part-fill-street-end : tie.Need-part-fill-street-end Inv-loop μ-loop
+part-fill-street-end c = omega (arith, ends c)
+
+fill-street-requires : tie.Need-fill-street-requires Inv-loop μ-loop
+fill-street-requires c κs =
+    let l = c .before .before .before .loop in
+    let ok = c .before .before .before .before .before .before .before .before .before .before .pre .0 in
+    (street-sound ok (omega arith) (l .inv .1), (street-room ok (omega arith) (l .inv .1), street-unkeyed ok (omega arith) (l .inv .1)))
+
+add-s : tie.Need-add-s Inv-loop μ-loop
+add-s c = search needs
+
+loop-less : tie.Need-loop-less Inv-loop μ-loop
+loop-less c = search needs
+
+loop-again : tie.Need-loop-again Inv-loop μ-loop
+loop-again c =
+    let ok = c .before .before .before .before .before .before .before .before .before .before .before .before .before .pre .0 in
+    let l = c .before .before .before .before .before .before .loop in
+    let call = c .before .before .fill-street in
+    (omega arith, filled-more ok (omega arith) (l .inv .1) (call .last .1 .1 .1 .0) (call .kept .1 .1 .1 .0) (call .ensures))
+
+same-length : tie.Need-same-length Inv-loop μ-loop
+same-length c = c .before .loop .inv .1 .size ∙ sym (c .before .before .before .before .before .before .before .before .pre .1)
+
+returns : tie.Need-returns Inv-loop μ-loop
+returns c = filled-all (omega arith) (c .before .loop .inv .1)
+
+pub fill-keys-spec : {M : Type 1} → statement M
+fill-keys-spec =
+    tie.close
+    (tie.spec
+    Inv-loop
+    μ-loop
+    add-fill-last
+    cast-fill-last
+    fill-last-requires
+    loop-holds
+    mul-low
+    add-high
+    sub-fill-street
+    part-fill-street-start
+    part-fill-street-end
+    fill-street-requires
+    add-s
+    loop-less
+    loop-again
+    same-length
+    returns)

@@ -1,0 +1,4 @@
+pub mod Lines
+pub mod Merging
+pub mod Halving
+pub mod Sorting
