@@ -1,1 +1,3 @@
 pub mod Divided
+pub mod Played
+pub mod Surveyed

@@ -1,1 +1,2 @@
 pub mod Shareable
+pub mod Plans

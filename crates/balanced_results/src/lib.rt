@@ -11,6 +11,8 @@ ghost use Rattle.division.specs.Shares.{divisionTotal, sharesOf};
 ghost use Rattle.division.specs.Divide.{divide};
 ghost use Rattle.balanced_results.specs.Shareable.{Shareable};
 
+pub mod plans;
+
 // The best division by a table of values, with buffers for the shares and for what is left of them.
 fn divide_table(
     values: &[u32],
