@@ -1,6 +1,6 @@
 -- Laws between the rows and the balanced plan: keys, lines and orders from the survey, and the rounds' division in the shares of their sites.
 -- Assumes nothing.
-use mathlib.Core.Path.{_≡_, refl, sym, ap, subst, _∙_}
+use mathlib.Core.Path.{_≡_, refl, sym, ap, _∙_}
 use mathlib.Core.Bool.{true}
 use mathlib.Core.List.{List}
 use mathlib.Core.Logic.{by-cases}
@@ -10,7 +10,7 @@ use native.Mathlib.Decide.{decLt}
 use native.Mathlib.Omega.{arith}
 use lib.ListN.{length, take, drop, length-drop}
 use lib.Seq.{getD-take, getD-drop, length-take-le}
-use Rattle.counting.specs.Lists.{at, cell, has}
+use Rattle.counting.specs.Lists.{at, cell}
 use Rattle.counting.specs.Sites.{Plan}
 use Rattle.counting.proofs.Sums.{has-at}
 use Rattle.counting.proofs.Tables.{row-within}
@@ -21,7 +21,7 @@ use Rattle.division.specs.Divide.{divide}
 use Rattle.balanced_plan.specs.Rounds.{ordered, rounds, placeKey, evenShare}
 use Rattle.balanced_plan.specs.Rounds as plan
 use Rattle.balanced_plan.proofs.Ordered.{ordered-street}
-use Rattle.balanced_plan.proofs.Dealt.{rounds-plan, rounds-in, rounds-length}
+use Rattle.balanced_plan.proofs.Dealt.{rounds-plan, rounds-in}
 use Rattle.balanced_plan.proofs.Evenly.{even-sum}
 use Rattle.balanced_plan.proofs.Agree.{rounds-agree}
 use Rattle.keys.specs.Table.{Ranked}
@@ -62,7 +62,7 @@ module _ (n m : ℕ) (list : List ℕ) (size : length list ≡ (m + 1) * n) wher
               let col : s < n = mod-lt i {m = n} some in
               let line : List ℕ = ordered (key a) (λ s. true) n in
               let here : at list i ≡ at line s =
-                  ap (λ (x : ℕ). at list x) (sym (div-add-mod' i n)) ∙ sym (row-cell a s col) ∙ ap (λ (L : List ℕ). at L s) (o a (omega arith)) in
+              ap (λ (x : ℕ). at list x) (sym (div-add-mod' i n)) ∙ sym (row-cell a s col) ∙ ap (λ (L : List ℕ). at L s) (o a (omega arith)) in
               let long : length line ≡ n = sym (ap length (o a (omega arith))) ∙ row-long a (omega arith) in
               omega (arith, here, ordered-street (key a) (λ s. true) n (at line s) (has-at line s (omega arith)) .0)
 

@@ -3,18 +3,26 @@
 use mathlib.Core.Path.{_≡_, refl, sym, _∙_}
 use mathlib.Core.Bool.{true}
 use mathlib.Core.List.{List}
-use Prim.Native.Nat.{ℕ}
+use Prim.Native.Nat.{ℕ, _*_, _/_, _≤_}
+use lib.ListN.{length}
 use Rattle.counting.specs.Buffers.{after}
+use Rattle.counting.specs.Sites.{Plan}
 use Rattle.survey.specs.Rows.{value}
+use Rattle.survey.specs.Accepted.{Accepted}
+use Rattle.division.specs.Shares.{divisionTotal}
 use Rattle.division.proofs.Counts.{shareSum}
 use Rattle.division.proofs.Best.{divide-in, divide-most, divide-first}
+use Rattle.balanced_plan.specs.Rounds.{placeKey}
 use Rattle.balanced_results.specs.Shareable.{Shareable}
+use Rattle.balanced_results.specs.Plans.{planSites, planDivision}
 use Rattle.balanced_results.proofs.Divided.{for-all}
-use Rattle.refusals.specs.Refusals.{balancedDivisionRefusal}
-use Rattle.refusals.proofs.Listed.{list-sites, list-apart, balanced-division-listed, balanced-division-even}
-use Rattle.planner.specs.Plans.{planTotal, sharesFor, balancedDivision}
+use Rattle.balanced_results.proofs.Played.{sites-shareable}
+use Rattle.balanced_results.proofs.Surveyed.{plan-floor, rounds-sites}
+use Rattle.refusals.specs.Refusals.{balancedDivisionRefusal, balancedPlanRefusal}
+use Rattle.refusals.proofs.Listed.{list-sites, list-apart, balanced-division-listed, balanced-division-even, balanced-plan-called, balanced-plan-even, balanced-plan-fits}
+use Rattle.planner.specs.Plans.{planTotal, sharesFor, balancedDivision, balancedSites, streetPlace}
 use Rattle.planner.specs.Answers.{Told}
-use Rattle.planner.specs.Good.{BestDivision}
+use Rattle.planner.specs.Good.{BestDivision, GoodBalanced}
 use Rattle.planner.proofs.Laws.{told-total, new-accepted}
 
 -- a list that is not refused can be shared
@@ -55,3 +63,56 @@ balanced-division-given n m scores rows sites division r e z given t total d =
         λ y. rw (d, total) (best-division n m scores rows sites (shareable n m scores rows sites division (sym e ∙ z))),
       ),
     )
+
+-- ---- the balanced plan
+module _ (n m k : ℕ) (scores rows : List ℕ) (ok : Accepted n m scores rows) (some : 1 ≤ k) (few : k ≤ m) (even : k * (n / k) ≡ n) where
+  sites : Plan m k (balancedSites n m k scores rows)
+  sites = rounds-sites n m k scores rows ok few even
+
+  -- over as many sites as were to be chosen the share is that of the plan
+  pub plan-division : balancedDivision n m scores rows (balancedSites n m k scores rows) ≡ planDivision (value m scores rows) n m k rows
+  plan-division = rw (sites .size) refl
+
+  can-share : Shareable n m (balancedSites n m k scores rows)
+  can-share = sites-shareable (value m scores rows) (placeKey (streetPlace m rows) m) n m k few even (balancedSites n m k scores rows) refl some
+
+  good-balanced : GoodBalanced n m k scores rows (balancedDivision n m scores rows (balancedSites n m k scores rows)) (balancedSites n m k scores rows)
+      (planTotal m scores rows (balancedDivision n m scores rows (balancedSites n m k scores rows)))
+  good-balanced =
+      record {
+        sites = sites;
+        best = best-division n m scores rows (balancedSites n m k scores rows) can-share;
+        floor = rw plan-division (plan-floor n m k scores rows ok few even);
+      }
+
+-- what the engine gave for the length of the lent list of sites, as the clauses of the entry
+pub balanced-plan-given : (n m k : ℕ) (scores rows division chosen : List ℕ) (r : ℕ) → r ≡ balancedPlanRefusal n m k scores rows division chosen → r ≡ 0
+    → (given sites : List ℕ) (t : ℕ) → t ≡ divisionTotal (value m scores rows) (planDivision (value m scores rows) n m (length chosen) rows)
+    → given ≡ planDivision (value m scores rows) n m (length chosen) rows → sites ≡ planSites (value m scores rows) n m (length chosen) rows
+    → Told 0 true t (balancedPlanRefusal n m k scores rows division chosen) (planTotal m scores rows (balancedDivision n m scores rows (balancedSites n m k scores rows)))
+    × ((given ≡ after (balancedPlanRefusal n m k scores rows division chosen) (balancedDivision n m scores rows (balancedSites n m k scores rows)) division)
+    × ((sites ≡ after (balancedPlanRefusal n m k scores rows division chosen) (balancedSites n m k scores rows) chosen)
+    × (true ≡ true → GoodBalanced n m k scores rows given sites t)))
+balanced-plan-given n m k scores rows division chosen r e z given sites t total d c =
+    let x : ℕ = balancedPlanRefusal n m k scores rows division chosen in
+    let ok : x ≡ 0 = sym e ∙ z in
+    let call = balanced-plan-called n m k scores rows division chosen ok in
+    let even = balanced-plan-even n m k scores rows division chosen ok in
+    let size : length chosen ≡ k = balanced-plan-fits n m k scores rows division chosen ok .1 in
+    let same = plan-division n m k scores rows (call .survey) (call .some) (call .few) even in
+    let t′ : t ≡ planTotal m scores rows (balancedDivision n m scores rows (balancedSites n m k scores rows)) = rw same (rw size at total) in
+    let d′ : given ≡ balancedDivision n m scores rows (balancedSites n m k scores rows) = rw same (rw size at d) in
+    let c′ : sites ≡ balancedSites n m k scores rows = rw size at c in (
+      told-total r x t _ e z t′,
+      (
+        new-accepted r x _ division given e z d′,
+        (
+          new-accepted r x _ chosen sites e z c′,
+          λ y. rw (d′, c′, t′) (good-balanced n m k scores rows (call .survey) (call .some) (call .few) even),
+        ),
+      ),
+    )
+
+-- the sites to choose are as many as their buffer has places
+pub even-length : (n k j : ℕ) → j ≡ k → k * (n / k) ≡ n → j * (n / j) ≡ n
+even-length n k j e h = rw e h

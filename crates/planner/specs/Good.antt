@@ -6,7 +6,7 @@ use Prim.Native.Nat.{ℕ, _-_, _*_, _^_, _≤_}
 use Rattle.counting.specs.Sites.{Plan}
 use Rattle.division.specs.Shares.{InShares}
 use Rattle.division.specs.Divide.{First}
-use Rattle.planner.specs.Plans.{listTotal, planTotal, sharesFor}
+use Rattle.planner.specs.Plans.{listTotal, planTotal, sharesFor, planFloor}
 
 -- a free plan of k sites with the total that it reports
 pub record GoodFree (n m k : ℕ) (scores rows division chosen : List ℕ) (reported : ℕ) : Type 0 where
@@ -29,3 +29,12 @@ pub record BestDivision (n m : ℕ) (scores rows sites division : List ℕ) (rep
   pub most : (other : List ℕ) → InShares other (sharesFor n m sites) → planTotal m scores rows other ≤ reported
   -- of those that total as much it is the first by street and site number
   pub first : (other : List ℕ) → InShares other (sharesFor n m sites) → planTotal m scores rows other ≡ reported → First division other
+
+-- a balanced plan of k sites with the total that it reports
+pub record GoodBalanced (n m k : ℕ) (scores rows division chosen : List ℕ) (reported : ℕ) : Type 0 where
+  -- the sites are k different ones of 1 to m
+  pub sites : Plan m k chosen
+  -- the division is the best one over them in equal shares, and the total is its own
+  pub best : BestDivision n m scores rows chosen division reported
+  -- the total is at least the floor
+  pub floor : planFloor n m k scores rows ≤ reported

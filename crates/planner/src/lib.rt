@@ -4,9 +4,9 @@ ghost use mathlib.Core.Path.{_≡_};
 ghost use mathlib.Core.Bool.{true};
 ghost use Rattle.survey.specs.Rows.{rankedPart, scoreOf};
 ghost use Rattle.counting.specs.Buffers.{after};
-ghost use Rattle.refusals.specs.Refusals.{checkRefusal, rowScoreRefusal, listTotalRefusal, freeDivisionRefusal, balancedDivisionRefusal, freePlanRefusal};
-ghost use Rattle.planner.specs.Plans.{listTotal, freeDivision, freeSites, planTotal, balancedDivision};
-ghost use Rattle.planner.specs.Good.{GoodFree, BestDivision};
+ghost use Rattle.refusals.specs.Refusals.{checkRefusal, rowScoreRefusal, listTotalRefusal, freeDivisionRefusal, balancedDivisionRefusal, freePlanRefusal, balancedPlanRefusal, floorRefusal};
+ghost use Rattle.planner.specs.Plans.{listTotal, freeDivision, freeSites, planTotal, balancedDivision, balancedSites, planFloor};
+ghost use Rattle.planner.specs.Good.{GoodFree, BestDivision, GoodBalanced};
 ghost use Rattle.planner.specs.Answers.{Answered, Told, checkedNumber, checkedAccepts, number, accepts, total};
 
 // The answer of a check.
@@ -121,4 +121,38 @@ pub fn free_plan(
         return Answer::Refused(x);
     }
     Answer::Total(free_results::plan(n, m, scores, rows, division, chosen))
+}
+
+// The balanced plan of k sites, into buffers of n and of k bytes: every site gets the same number of streets. Refuses with 1, 2, 3, 5, 6, 8, 9,
+// 10 or 11.
+pub fn balanced_plan(
+    n: usize,
+    m: usize,
+    k: usize,
+    scores: &[u16],
+    rows: &[u8],
+    division: &mut [u8],
+    chosen: &mut [u8],
+) -> Answer
+    ensures answer { λ r. ⌜ Told (number r) (accepts r) (total r) (balancedPlanRefusal n m k (now (scores .entry)) (now (rows .entry)) (now (division .entry)) (now (chosen .entry))) (planTotal m (now (scores .entry)) (now (rows .entry)) (balancedDivision n m (now (scores .entry)) (now (rows .entry)) (balancedSites n m k (now (scores .entry)) (now (rows .entry))))) ⌝ }
+    ensures division { λ _. ⌜ now (division .exit) ≡ after (balancedPlanRefusal n m k (now (scores .entry)) (now (rows .entry)) (now (division .entry)) (now (chosen .entry))) (balancedDivision n m (now (scores .entry)) (now (rows .entry)) (balancedSites n m k (now (scores .entry)) (now (rows .entry)))) (now (division .entry)) ⌝ }
+    ensures chosen { λ _. ⌜ now (chosen .exit) ≡ after (balancedPlanRefusal n m k (now (scores .entry)) (now (rows .entry)) (now (division .entry)) (now (chosen .entry))) (balancedSites n m k (now (scores .entry)) (now (rows .entry))) (now (chosen .entry)) ⌝ }
+    ensures good { λ r. ⌜ (accepts r ≡ true → GoodBalanced n m k (now (scores .entry)) (now (rows .entry)) (now (division .exit)) (now (chosen .exit)) (total r)) ⌝ }
+{
+    let x = refusals::balanced_plan_refusal(n, m, k, scores, rows, division, chosen);
+    if x != 0 {
+        return Answer::Refused(x);
+    }
+    Answer::Total(balanced_results::plans::plan(n, m, scores, rows, division, chosen))
+}
+
+// The floor: what every balanced plan of k sites totals at least. Refuses with 1, 2, 3, 5, 6, 8, 9, 10 or 11.
+pub fn floor(n: usize, m: usize, k: usize, scores: &[u16], rows: &[u8]) -> Answer
+    ensures { λ r. ⌜ Told (number r) (accepts r) (total r) (floorRefusal n m k (now (scores .entry)) (now (rows .entry))) (planFloor n m k (now (scores .entry)) (now (rows .entry))) ⌝ }
+{
+    let x = refusals::floor_refusal(n, m, k, scores, rows);
+    if x != 0 {
+        return Answer::Refused(x);
+    }
+    Answer::Total(floors::floor(n, m, k, scores, rows))
 }

@@ -1,9 +1,8 @@
+-- `balanced_results::plans::plan_table` meets its contract. Assumes nothing.
 use borrow.Author.Needs.{needs}
 use native.Mathlib.Omega.{arith}
-use mathlib.Core.Path.{_≡_, refl, sym, ap, _∙_}
-use lib.ListN.{length, take}
-use Prim.Native.Nat.{ℕ, _+_, _*_, _/_}
-use Rattle.counting.specs.Lists.{at, cell}
+use mathlib.Core.Path.{sym, _∙_}
+use lib.ListN.{length}
 use lib.Seq.{length-take-le}
 use Rattle.survey.specs.Rows.{rowOf, placeOf}
 use Rattle.values.specs.Table.{valueIn}
@@ -12,53 +11,40 @@ use Rattle.balanced_results.proofs.Divided.{table-of}
 use Rattle.balanced_results.proofs.Played.{rounds-ready, state-sites, state-division, plan-given}
 use Rattle.balanced_results.proofs.plans.plan_table.Statement.{statement}
 use Rattle.balanced_results.proofs.plans.plan_table.Tie as tie
-use Rattle.balanced_results.proofs.plans.plan_table.Reads as reads
-use Rattle.balanced_results.proofs.plans.plan_table.Lts as lts
-use Rattle.balanced_results.proofs.plans.improve.Reads as improve-reads
-use Rattle.balanced_results.proofs.plans.play.Reads as play-reads
-use Rattle.free_results.proofs.serve.copy.Reads as copy-reads
 
--- src/plans.rt:64:9
 play-requires : tie.Need-play-requires
 play-requires c κs = search needs
 
--- src/plans.rt:67:31
 array-share-prefix-sites : tie.Need-array-share-prefix-sites
 array-share-prefix-sites c = search needs
 
--- src/plans.rt:67:31
 slice-aggregate-copy : tie.Need-slice-aggregate-copy
 slice-aggregate-copy c =
     let a = c .before .before .before .before .before .before .before .before .before .args in
     let p = c .before .before .before .before .before .before .before .before .before .pre in
     sym (length-take-le (length (a .chosen .now)) ((c .before .before .before .play .result) .chosen) (omega (arith, (c .before .before .before .play .ensures .0 .0) .chosen-size, p .1 .0 .1, p .0 .0 .few-sites)))
 
--- src/plans.rt:67:5
 copy-requires : tie.Need-copy-requires
 copy-requires c κs =
     let a = c .before .before .before .before .before .before .before .before .before .before .args in
     let p = c .before .before .before .before .before .before .before .before .before .before .pre in
     length-take-le (length (a .chosen .now)) ((c .before .before .before .before .play .result) .chosen) (omega (arith, (c .before .before .before .before .play .ensures .0 .0) .chosen-size, p .1 .0 .1, p .0 .0 .few-sites))
 
--- src/plans.rt:68:31
 array-share-prefix-given : tie.Need-array-share-prefix-given
 array-share-prefix-given c = search needs
 
--- src/plans.rt:68:31
 slice-aggregate-copy-2 : tie.Need-slice-aggregate-copy-2
 slice-aggregate-copy-2 c =
     let a = c .before .before .before .before .before .before .before .before .before .before .before .before .before .before .args in
     let p = c .before .before .before .before .before .before .before .before .before .before .before .before .before .before .pre in
     sym (length-take-le (length (a .division .now)) ((c .before .before .before .before .before .before .before .before .play .result) .division) (omega (arith, (c .before .before .before .before .before .before .before .before .play .ensures .0 .0) .division-size, p .0 .0 .few-streets)))
 
--- src/plans.rt:68:5
 copy-requires-2 : tie.Need-copy-requires-2
 copy-requires-2 c κs =
     let a = c .before .before .before .before .before .before .before .before .before .before .before .before .before .before .before .args in
     let p = c .before .before .before .before .before .before .before .before .before .before .before .before .before .before .before .pre in
     length-take-le (length (a .division .now)) ((c .before .before .before .before .before .before .before .before .before .play .result) .division) (omega (arith, (c .before .before .before .before .before .before .before .before .before .play .ensures .0 .0) .division-size, p .0 .0 .few-streets))
 
--- src/plans.rt:69:5
 improve-requires : tie.Need-improve-requires
 improve-requires c κs =
     let a = c .before .before .before .before .before .before .before .before .before .before .before .before .before .before .before .before .before .before .before .before .before .args in
@@ -68,19 +54,15 @@ improve-requires c κs =
     let ready = rounds-ready (valueIn (a .values .now) (a .m)) (placeKey (λ s x. placeOf (rowOf (a .m) (a .rows .now) s) x) (a .m)) (length (a .division .now)) (a .m) (length (a .chosen .now)) (p .1 .0 .0) (p .1 .0 .1) (p .1 .0 .2) (h .last .1 .0) (d .last .1 .0) (d .kept .1 .0) (h .ensures ∙ state-sites (length (a .division .now)) (length (a .chosen .now)) (c .before .before .before .before .before .before .before .before .before .before .before .before .before .before .before .play .result) _ (c .before .before .before .before .before .before .before .before .before .before .before .before .before .before .before .play .ensures .0 .1) (c .before .before .before .before .before .before .before .before .before .before .before .before .before .before .before .play .ensures .1)) (d .ensures ∙ state-division (length (a .division .now)) (c .before .before .before .before .before .before .before .before .before .before .before .before .before .before .before .play .result) _ (c .before .before .before .before .before .before .before .before .before .before .before .before .before .before .before .play .ensures .1)) in
     ((table-of (length (a .division .now)) (a .m) _ _ (d .kept .1 .0) (p .0 .0), ready .0), (p .1 .1, ready .1))
 
--- src/plans.rt:47:1
 same-length : tie.Need-same-length
 same-length c = search needs
 
--- src/plans.rt:47:1
 same-length-2 : tie.Need-same-length-2
 same-length-2 c = search needs
 
--- src/plans.rt:47:1
 same-length-3 : tie.Need-same-length-3
 same-length-3 c = search needs
 
--- src/plans.rt:47:1
 returns : tie.Need-returns
 returns c =
     let a = c .before .before .before .before .before .before .before .before .before .before .before .before .before .before .before .before .before .before .before .before .before .before .before .before .before .before .args in

@@ -1,3 +1,4 @@
+-- `balanced_results::plans::play` meets its contract. Assumes nothing.
 use borrow.Author.Needs.{needs}
 use native.Mathlib.Omega.{arith}
 use mathlib.Core.Path.{_≡_, refl, sym, ap, _∙_}
@@ -13,98 +14,79 @@ use Rattle.balanced_rounds.proofs.Rounding.{lines-small}
 use Rattle.balanced_results.proofs.Played.{lines-ordered, lined-same, keyed-same, keys-right}
 use Rattle.balanced_results.proofs.plans.play.Statement.{statement}
 use Rattle.balanced_results.proofs.plans.play.Tie as tie
-use Rattle.balanced_results.proofs.plans.play.Reads as reads
-use Rattle.balanced_results.proofs.plans.play.Lts as lts
-use Rattle.balanced_rounds.proofs.rounds.Reads as rounds-reads
-use Rattle.keys.proofs.fill_keys.Reads as fill-keys-reads
-use Rattle.orders.proofs.fill_orders.Reads as fill-orders-reads
 
--- src/plans.rt:25:17
 add-size : tie.Need-add-size
 add-size c = search needs
 
--- src/plans.rt:25:16
 mul-size : tie.Need-mul-size
 mul-size c = search needs
 
--- src/plans.rt:28:33
 array-borrow-prefix-keys : tie.Need-array-borrow-prefix-keys
 array-borrow-prefix-keys c =
     let a = c .before .before .args in
     let p = c .before .before .pre in
     (lines-small (a .n) (a .m) (p .0 .0 .few-streets) (p .0 .0 .few-sites))
 
--- src/plans.rt:28:33
 slice-aggregate-fill-keys : tie.Need-slice-aggregate-fill-keys
 slice-aggregate-fill-keys c =
     let a = c .before .before .before .args in
     let p = c .before .before .before .pre in
     sym (front-length ((a .m + 1) * a .n) 26000 (lines-small (a .n) (a .m) (p .0 .0 .few-streets) (p .0 .0 .few-sites)))
 
--- src/plans.rt:28:5
 fill-keys-requires : tie.Need-fill-keys-requires
 fill-keys-requires c κs =
     let a = c .before .before .before .args in
     let p = c .before .before .before .pre in
     (p .0 .1, front-length ((a .m + 1) * a .n) 26000 (lines-small (a .n) (a .m) (p .0 .0 .few-streets) (p .0 .0 .few-sites)))
 
--- src/plans.rt:29:25
 array-share-prefix-keys : tie.Need-array-share-prefix-keys
 array-share-prefix-keys c =
     let a = c .before .before .before .before .before .args in
     let p = c .before .before .before .before .before .pre in
     back-room ((a .m + 1) * a .n) (c .before .fill-keys .last .1 .1 .1 .0) _ (c .before .fill-keys .kept .1 .1 .1 .0 ∙ front-length ((a .m + 1) * a .n) 26000 (lines-small (a .n) (a .m) (p .0 .0 .few-streets) (p .0 .0 .few-sites)))
 
--- src/plans.rt:29:25
 slice-aggregate-fill-orders : tie.Need-slice-aggregate-fill-orders
 slice-aggregate-fill-orders c =
     let a = c .before .before .before .before .before .before .args in
     let p = c .before .before .before .before .before .before .pre in
     sym (back-size ((a .m + 1) * a .n) (c .before .before .fill-keys .last .1 .1 .1 .0) _ (c .before .before .fill-keys .kept .1 .1 .1 .0 ∙ front-length ((a .m + 1) * a .n) 26000 (lines-small (a .n) (a .m) (p .0 .0 .few-streets) (p .0 .0 .few-sites))))
 
--- src/plans.rt:29:46
 array-borrow-prefix-orders : tie.Need-array-borrow-prefix-orders
 array-borrow-prefix-orders c =
     let a = c .before .before .before .before .before .before .args in
     let p = c .before .before .before .before .before .before .pre in
     (lines-small (a .n) (a .m) (p .0 .0 .few-streets) (p .0 .0 .few-sites))
 
--- src/plans.rt:29:46
 slice-aggregate-fill-orders-2 : tie.Need-slice-aggregate-fill-orders-2
 slice-aggregate-fill-orders-2 c =
     let a = c .before .before .before .before .before .before .before .args in
     let p = c .before .before .before .before .before .before .before .pre in
     sym (front-length ((a .m + 1) * a .n) 26000 (lines-small (a .n) (a .m) (p .0 .0 .few-streets) (p .0 .0 .few-sites)))
 
--- src/plans.rt:29:5
 fill-orders-requires : tie.Need-fill-orders-requires
 fill-orders-requires c κs =
     let a = c .before .before .before .before .before .before .before .args in
     let p = c .before .before .before .before .before .before .before .pre in
     (p .0 .0 .few-streets, p .0 .0 .few-sites, back-size ((a .m + 1) * a .n) (c .before .before .before .fill-keys .last .1 .1 .1 .0) _ (c .before .before .before .fill-keys .kept .1 .1 .1 .0 ∙ front-length ((a .m + 1) * a .n) 26000 (lines-small (a .n) (a .m) (p .0 .0 .few-streets) (p .0 .0 .few-sites))), front-length ((a .m + 1) * a .n) 26000 (lines-small (a .n) (a .m) (p .0 .0 .few-streets) (p .0 .0 .few-sites)))
 
--- src/plans.rt:30:37
 array-share-prefix-orders : tie.Need-array-share-prefix-orders
 array-share-prefix-orders c =
     let a = c .before .before .before .before .before .before .before .before .before .args in
     let p = c .before .before .before .before .before .before .before .before .before .pre in
     back-room ((a .m + 1) * a .n) (c .before .fill-orders .last .1 .1 .1 .0) _ (c .before .fill-orders .kept .1 .1 .1 .0 ∙ front-length ((a .m + 1) * a .n) 26000 (lines-small (a .n) (a .m) (p .0 .0 .few-streets) (p .0 .0 .few-sites)))
 
--- src/plans.rt:30:37
 slice-aggregate-rounds : tie.Need-slice-aggregate-rounds
 slice-aggregate-rounds c =
     let a = c .before .before .before .before .before .before .before .before .before .before .args in
     let p = c .before .before .before .before .before .before .before .before .before .before .pre in
     sym (back-size ((a .m + 1) * a .n) (c .before .before .fill-orders .last .1 .1 .1 .0) _ (c .before .before .fill-orders .kept .1 .1 .1 .0 ∙ front-length ((a .m + 1) * a .n) 26000 (lines-small (a .n) (a .m) (p .0 .0 .few-streets) (p .0 .0 .few-sites))))
 
--- src/plans.rt:30:5
 rounds-requires : tie.Need-rounds-requires
 rounds-requires c κs =
     let a = c .before .before .before .before .before .before .before .before .before .before .args in
     let p = c .before .before .before .before .before .before .before .before .before .before .pre in
     ((p .0 .0, lines-ordered (a .n) (a .m) _ (back-size ((a .m + 1) * a .n) (c .before .before .fill-orders .last .1 .1 .1 .0) _ (c .before .before .fill-orders .kept .1 .1 .1 .0 ∙ front-length ((a .m + 1) * a .n) 26000 (lines-small (a .n) (a .m) (p .0 .0 .few-streets) (p .0 .0 .few-sites)))) _ (lined-same (a .n) (a .m) _ _ _ (back-is ((a .m + 1) * a .n) (c .before .before .fill-orders .last .1 .1 .1 .0) _ (c .before .before .fill-orders .kept .1 .1 .1 .0 ∙ front-length ((a .m + 1) * a .n) 26000 (lines-small (a .n) (a .m) (p .0 .0 .few-streets) (p .0 .0 .few-sites)))) (c .before .before .fill-orders .ensures))), p .1)
 
--- src/plans.rt:19:1
 returns : tie.Need-returns
 returns c =
     let a = c .before .before .before .before .before .before .before .before .before .before .before .args in
