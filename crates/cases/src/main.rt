@@ -9,7 +9,7 @@ ghost use Prim.Native.Nat.{_≤_, _<_};
 ghost use Rattle.io.specs.Counts.{Counts};
 
 // the last command, the most cases, and the most bytes up to the end of a number
-const LAST: usize = 7;
+const LAST: usize = 9;
 
 const CASES: u64 = 10000;
 
@@ -246,8 +246,26 @@ fn division_case(balanced: bool) {
     );
 }
 
-// A free plan, and its buffers.
+// A plan, balanced or free.
+fn plan_of(
+    balanced: bool,
+    n: usize,
+    m: usize,
+    k: usize,
+    scores: &[u16],
+    rows: &[u8],
+    division: &mut [u8],
+    chosen: &mut [u8],
+) -> Answer {
+    if balanced {
+        return planner::balanced_plan(n, m, k, scores, rows, division, chosen);
+    }
+    planner::free_plan(n, m, k, scores, rows, division, chosen)
+}
+
+// A plan, and its buffers.
 fn planned(
+    balanced: bool,
     n: usize,
     m: usize,
     k: usize,
@@ -256,13 +274,14 @@ fn planned(
     division: &mut [u8],
     chosen: &mut [u8],
 ) {
-    say_answer(planner::free_plan(n, m, k, scores, rows, division, chosen));
+    say_answer(plan_of(balanced, n, m, k, scores, rows, division, chosen));
     say_buffer(b" division", division);
     say_buffer(b" chosen", chosen);
 }
 
-// Command 6: the streets, the sites, the chosen; the scores; the rows; the buffers of the division and of the chosen sites.
-fn plan_case() {
+// Commands 6, free, and 8, balanced: the streets, the sites, the chosen; the scores; the rows; the buffers of the division and of the chosen
+// sites.
+fn plan_case(balanced: bool) {
     let n = number(BOUND);
     let m = number(BOUND);
     let k = number(BOUND);
@@ -279,6 +298,7 @@ fn plan_case() {
     let mut chosen = c.buffer;
     let c_len = c.len;
     planned(
+        balanced,
         n,
         m,
         k,
@@ -287,6 +307,20 @@ fn plan_case() {
         &mut division[..d_len],
         &mut chosen[..c_len],
     );
+}
+
+// Command 9: the streets, the sites, the chosen; the scores; the rows.
+fn floor_case() {
+    let n = number(BOUND);
+    let m = number(BOUND);
+    let k = number(BOUND);
+    let s = scores_list();
+    let r = bytes_list();
+    let scores = s.buffer;
+    let s_len = s.len;
+    let rows = r.buffer;
+    let r_len = r.len;
+    say_answer(planner::floor(n, m, k, &scores[..s_len], &rows[..r_len]));
 }
 
 // The line of one case; false where the command is none, which ends the run.
@@ -302,8 +336,10 @@ fn one_case(case: u64, command: usize) -> bool {
         3 => part_case(),
         4 => list_case(),
         5 => division_case(false),
-        6 => plan_case(),
-        _ => division_case(true),
+        6 => plan_case(false),
+        7 => division_case(true),
+        8 => plan_case(true),
+        _ => floor_case(),
     }
     io::write_all(STDOUT_FILENO, b"\n");
     true

@@ -20,7 +20,7 @@ use Rattle.balanced_results.proofs.Played.{sites-shareable}
 use Rattle.balanced_results.proofs.Surveyed.{plan-floor, rounds-sites}
 use Rattle.refusals.specs.Refusals.{balancedDivisionRefusal, balancedPlanRefusal}
 use Rattle.refusals.proofs.Listed.{list-sites, list-apart, balanced-division-listed, balanced-division-even, balanced-plan-called, balanced-plan-even, balanced-plan-fits}
-use Rattle.planner.specs.Plans.{planTotal, sharesFor, balancedDivision, balancedSites, streetPlace}
+use Rattle.planner.specs.Plans.{planTotal, sharesFor, balancedDivision, balancedSites, balancedTotal, streetPlace}
 use Rattle.planner.specs.Answers.{Told}
 use Rattle.planner.specs.Good.{BestDivision, GoodBalanced}
 use Rattle.planner.proofs.Laws.{told-total, new-accepted}
@@ -77,7 +77,7 @@ module _ (n m k : ℕ) (scores rows : List ℕ) (ok : Accepted n m scores rows) 
   can-share = sites-shareable (value m scores rows) (placeKey (streetPlace m rows) m) n m k few even (balancedSites n m k scores rows) refl some
 
   good-balanced : GoodBalanced n m k scores rows (balancedDivision n m scores rows (balancedSites n m k scores rows)) (balancedSites n m k scores rows)
-      (planTotal m scores rows (balancedDivision n m scores rows (balancedSites n m k scores rows)))
+      (balancedTotal n m k scores rows)
   good-balanced =
       record {
         sites = sites;
@@ -89,7 +89,7 @@ module _ (n m k : ℕ) (scores rows : List ℕ) (ok : Accepted n m scores rows) 
 pub balanced-plan-given : (n m k : ℕ) (scores rows division chosen : List ℕ) (r : ℕ) → r ≡ balancedPlanRefusal n m k scores rows division chosen → r ≡ 0
     → (given sites : List ℕ) (t : ℕ) → t ≡ divisionTotal (value m scores rows) (planDivision (value m scores rows) n m (length chosen) rows)
     → given ≡ planDivision (value m scores rows) n m (length chosen) rows → sites ≡ planSites (value m scores rows) n m (length chosen) rows
-    → Told 0 true t (balancedPlanRefusal n m k scores rows division chosen) (planTotal m scores rows (balancedDivision n m scores rows (balancedSites n m k scores rows)))
+    → Told 0 true t (balancedPlanRefusal n m k scores rows division chosen) (balancedTotal n m k scores rows)
     × ((given ≡ after (balancedPlanRefusal n m k scores rows division chosen) (balancedDivision n m scores rows (balancedSites n m k scores rows)) division)
     × ((sites ≡ after (balancedPlanRefusal n m k scores rows division chosen) (balancedSites n m k scores rows) chosen)
     × (true ≡ true → GoodBalanced n m k scores rows given sites t)))
@@ -100,7 +100,7 @@ balanced-plan-given n m k scores rows division chosen r e z given sites t total 
     let even = balanced-plan-even n m k scores rows division chosen ok in
     let size : length chosen ≡ k = balanced-plan-fits n m k scores rows division chosen ok .1 in
     let same = plan-division n m k scores rows (call .survey) (call .some) (call .few) even in
-    let t′ : t ≡ planTotal m scores rows (balancedDivision n m scores rows (balancedSites n m k scores rows)) = rw same (rw size at total) in
+    let t′ : t ≡ balancedTotal n m k scores rows = rw same (rw size at total) in
     let d′ : given ≡ balancedDivision n m scores rows (balancedSites n m k scores rows) = rw same (rw size at d) in
     let c′ : sites ≡ balancedSites n m k scores rows = rw size at c in (
       told-total r x t _ e z t′,

@@ -50,6 +50,10 @@ balancedRounds n m k scores rows = rounds (value m scores rows) (placeKey (stree
 abbrev pub balancedSites : ℕ → ℕ → ℕ → List ℕ → List ℕ → List ℕ
 balancedSites n m k scores rows = balancedRounds n m k scores rows .chosen
 
+-- the total that the balanced plan reports: that of its division
+abbrev pub balancedTotal : ℕ → ℕ → ℕ → List ℕ → List ℕ → ℕ
+balancedTotal n m k scores rows = planTotal m scores rows (balancedDivision n m scores rows (balancedSites n m k scores rows))
+
 -- the floor
 abbrev pub planFloor : ℕ → ℕ → ℕ → List ℕ → List ℕ → ℕ
 planFloor n m k scores rows = floor (evenShare n k) (scoreAt scores) (shortest n m rows) m k

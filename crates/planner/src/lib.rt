@@ -5,7 +5,7 @@ ghost use mathlib.Core.Bool.{true};
 ghost use Rattle.survey.specs.Rows.{rankedPart, scoreOf};
 ghost use Rattle.counting.specs.Buffers.{after};
 ghost use Rattle.refusals.specs.Refusals.{checkRefusal, rowScoreRefusal, listTotalRefusal, freeDivisionRefusal, balancedDivisionRefusal, freePlanRefusal, balancedPlanRefusal, floorRefusal};
-ghost use Rattle.planner.specs.Plans.{listTotal, freeDivision, freeSites, planTotal, balancedDivision, balancedSites, planFloor};
+ghost use Rattle.planner.specs.Plans.{listTotal, freeDivision, freeSites, planTotal, balancedDivision, balancedSites, balancedTotal, planFloor};
 ghost use Rattle.planner.specs.Good.{GoodFree, BestDivision, GoodBalanced};
 ghost use Rattle.planner.specs.Answers.{Answered, Told, checkedNumber, checkedAccepts, number, accepts, total};
 
@@ -134,7 +134,7 @@ pub fn balanced_plan(
     division: &mut [u8],
     chosen: &mut [u8],
 ) -> Answer
-    ensures answer { λ r. ⌜ Told (number r) (accepts r) (total r) (balancedPlanRefusal n m k (now (scores .entry)) (now (rows .entry)) (now (division .entry)) (now (chosen .entry))) (planTotal m (now (scores .entry)) (now (rows .entry)) (balancedDivision n m (now (scores .entry)) (now (rows .entry)) (balancedSites n m k (now (scores .entry)) (now (rows .entry))))) ⌝ }
+    ensures answer { λ r. ⌜ Told (number r) (accepts r) (total r) (balancedPlanRefusal n m k (now (scores .entry)) (now (rows .entry)) (now (division .entry)) (now (chosen .entry))) (balancedTotal n m k (now (scores .entry)) (now (rows .entry))) ⌝ }
     ensures division { λ _. ⌜ now (division .exit) ≡ after (balancedPlanRefusal n m k (now (scores .entry)) (now (rows .entry)) (now (division .entry)) (now (chosen .entry))) (balancedDivision n m (now (scores .entry)) (now (rows .entry)) (balancedSites n m k (now (scores .entry)) (now (rows .entry)))) (now (division .entry)) ⌝ }
     ensures chosen { λ _. ⌜ now (chosen .exit) ≡ after (balancedPlanRefusal n m k (now (scores .entry)) (now (rows .entry)) (now (division .entry)) (now (chosen .entry))) (balancedSites n m k (now (scores .entry)) (now (rows .entry))) (now (chosen .entry)) ⌝ }
     ensures good { λ r. ⌜ (accepts r ≡ true → GoodBalanced n m k (now (scores .entry)) (now (rows .entry)) (now (division .exit)) (now (chosen .exit)) (total r)) ⌝ }

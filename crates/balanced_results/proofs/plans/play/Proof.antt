@@ -1,11 +1,8 @@
 -- `balanced_results::plans::play` meets its contract. Assumes nothing.
 use borrow.Author.Needs.{needs}
-use native.Mathlib.Omega.{arith}
-use mathlib.Core.Path.{_≡_, refl, sym, ap, _∙_}
-use lib.ListN.{length, take}
-use Prim.Native.Nat.{ℕ, _+_, _*_, _/_}
-use Rattle.counting.specs.Lists.{at, cell}
-use Rattle.counting.proofs.Parts.{front-length, front-blank, back-is, back-room, back-size}
+use mathlib.Core.Path.{refl, sym, _∙_}
+use Prim.Native.Nat.{_+_, _*_}
+use Rattle.counting.proofs.Parts.{front-length, back-is, back-room, back-size}
 use Rattle.survey.specs.Rows.{rowOf, placeOf}
 use Rattle.values.specs.Table.{valueIn}
 use Rattle.balanced_plan.specs.Rounds.{placeKey, evenShare}
