@@ -12,7 +12,7 @@ use Rattle.counting.specs.Choice.{unchosen}
 use Rattle.counting.proofs.Membership.{has-head, has-tail, sum-le}
 use Rattle.counting.proofs.Choice.{greatest-le, greatest-same}
 use Rattle.balanced_plan.specs.Rounds.{State, insert, ordered, free, lot, give, worth, choice, taken, rounds}
-use Rattle.balanced_plan.proofs.Listed.{has-take}
+use Rattle.counting.proofs.Listed.{has-take}
 use Rattle.balanced_plan.proofs.Ordered.{ordered-street}
 use Rattle.balanced_plan.proofs.Dealt.{rounds-length}
 

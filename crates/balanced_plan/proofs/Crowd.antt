@@ -21,7 +21,7 @@ use Rattle.counting.proofs.Refusals.{and-both}
 use Rattle.counting.proofs.Membership.{has-head, has-tail, sum-le, sum-two, sum-length, one-more, one-not, distinct-within}
 use Rattle.counting.proofs.Sums.{listOf-length, listOf-at, has-at, has-index}
 use Rattle.counting.proofs.Choice.{unchosen-yes}
-use Rattle.balanced_plan.proofs.Listed.{has-only, only-has, only-length, only-distinct, sum-even, sum-parts}
+use Rattle.counting.proofs.Listed.{has-only, only-has, only-length, only-distinct, sum-even, sum-parts}
 
 -- what is near, counted street by street, is no more than the same counted site by site
 swap : (near : ℕ → ℕ → ℕ) (U W : List ℕ) → sum (λ s. sum (near s) W) U ≤ sum (λ w. sum (λ s. near s w) U) W

@@ -1,7 +1,7 @@
 -- What the rounds hand out: each round chooses a site that was not chosen and gives it its share of the free streets.
 -- Assumes nothing.
-use mathlib.Core.Path.{_≡_, refl, sym, _∙_}
-use mathlib.Core.Bool.{true, false, true≢false}
+use mathlib.Core.Path.{_≡_, sym, _∙_}
+use mathlib.Core.Bool.{true, false}
 use mathlib.Mathlib.Data.Bool.Basic.{dichotomy, or-eq-false-eq-eq-false-and-eq-false}
 use mathlib.Core.Logic.{⊎-elim}
 use mathlib.Core.List.{List, [], _∷_, _++_}
@@ -9,17 +9,18 @@ use Prim.Native.Nat.{ℕ, zero, suc, _+_, _*_, _≤_, _<_}
 use native.Mathlib.Nat.{eq-or-lt-of-le}
 use native.Mathlib.Omega.{arith}
 use lib.Dec.{eqb}
-use lib.ListN.{length, replicate, length-append, length-replicate}
+use lib.ListN.{length, replicate, length-replicate}
 use borrow.Author.Tests.{eqb-true}
 use Rattle.counting.specs.Words.{one, sumOf}
 use Rattle.counting.specs.Lists.{has, count}
 use Rattle.counting.specs.Sites.{Sites, Plan}
-use Rattle.counting.proofs.Membership.{sum-le, has-last, distinct-last}
+use Rattle.counting.proofs.Membership.{sum-le}
 use Rattle.counting.proofs.Choice.{unchosen-only, unchosen-greatest}
 use Rattle.division.specs.Shares.{share, shareAmong, sharesOf, InShares, divisionTotal}
 use Rattle.division.proofs.Shared.{shares-are}
 use Rattle.balanced_plan.specs.Rounds.{lot, worth, choice, rounds}
-use Rattle.balanced_plan.proofs.Listed.{sum-even}
+use Rattle.counting.proofs.Plans.{plan-none, plan-add}
+use Rattle.counting.proofs.Listed.{sum-even}
 use Rattle.balanced_plan.proofs.Lots.{lot-givable, lot-length, give-length, give-total, give-count}
 
 -- a sum of more numbers is no less
@@ -72,15 +73,11 @@ module _ (v key : ℕ → ℕ → ℕ) (n m : ℕ) (q : ℕ → ℕ) where
   -- i rounds choose i different sites of 1 to m
   pub rounds-plan : (i : ℕ) → i ≤ m → Plan m i (sitesAfter i)
   unfolding rounds
-  rounds-plan zero l = record { sites = λ a h. absurd (true≢false (sym h)); apart = refl; size = refl }
+  rounds-plan zero l = plan-none
   rounds-plan (suc i) l =
       let p = rounds-plan i (omega arith) in
       let (low, high, new) = next-new i p l in
-      record {
-        sites = λ b h. ⊎-elim (p .sites b) (λ e. rw e (low, high)) (has-last b (nextSite i) (sitesAfter i) h);
-        apart = distinct-last (nextSite i) (sitesAfter i) (p .apart) new;
-        size = omega (arith, length-append (sitesAfter i) (nextSite i ∷ []), p .size);
-      }
+      plan-add p (nextSite i) low high new
 
   -- the division is one of all n streets
   pub rounds-length : (i : ℕ) → length (divisionAfter i) ≡ n

@@ -27,7 +27,7 @@ use Rattle.division.proofs.Shared.{shares-sum}
 use Rattle.division.proofs.Best.{divide-most}
 use Rattle.balanced_plan.specs.Rounds.{ordered, free, worth}
 use Rattle.balanced_plan.specs.Floor.{depth, added, floor}
-use Rattle.balanced_plan.proofs.Listed.{has-take, take-distinct}
+use Rattle.counting.proofs.Listed.{has-take, take-distinct}
 use Rattle.balanced_plan.proofs.Ordered.{ordered-street, ordered-rising, ordered-sum, first-least}
 use Rattle.balanced_plan.proofs.Lots.{free-length}
 use Rattle.balanced_plan.proofs.Crowd.{crowd-site}

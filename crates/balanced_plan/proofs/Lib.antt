@@ -1,5 +1,4 @@
 pub mod Lots
-pub mod Listed
 pub mod Ordered
 pub mod Crowd
 pub mod Dealt

@@ -17,7 +17,7 @@ use Rattle.division.specs.Shares.{divisionTotal}
 use Rattle.division.proofs.Counts.{count-total, count-suc}
 use Rattle.division.proofs.Chain.{divisionTotal-set}
 use Rattle.balanced_plan.specs.Rounds.{ordered, free, lot, give}
-use Rattle.balanced_plan.proofs.Listed.{has-take, take-distinct, sum-even}
+use Rattle.counting.proofs.Listed.{has-take, take-distinct, sum-even}
 use Rattle.balanced_plan.proofs.Ordered.{ordered-street, ordered-distinct, ordered-longer}
 
 -- a site takes no more streets than the share

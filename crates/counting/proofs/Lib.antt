@@ -6,3 +6,5 @@ pub mod Marking
 pub mod Filling
 pub mod Parts
 pub mod Tables
+pub mod Listed
+pub mod Plans

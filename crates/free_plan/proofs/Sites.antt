@@ -1,8 +1,6 @@
 -- Laws of the greedy list: it is a plan of different sites of 1 to m, it holds the list it starts from, and each round only adds behind it.
 -- Assumes nothing.
-use mathlib.Core.Path.{_≡_, refl, sym, _∙_}
-use mathlib.Core.Bool.{false, true≢false}
-use mathlib.Core.Logic.{⊎-elim}
+use mathlib.Core.Path.{_≡_, refl, _∙_}
 use mathlib.Core.List.{List, [], _∷_, _++_}
 use Prim.Native.Nat.{ℕ, zero, suc, _+_, _≤_, _<_}
 use native.Mathlib.Nat.{zero-add, add-zero, add-suc}
@@ -12,7 +10,8 @@ use lib.ListN.{length, take, length-append}
 use lib.Seq.{take-all, take-append-le}
 use Rattle.counting.specs.Lists.{has}
 use Rattle.counting.proofs.Refusals.{or-left}
-use Rattle.counting.proofs.Membership.{has-append, has-last, distinct-last}
+use Rattle.counting.proofs.Membership.{has-append}
+use Rattle.counting.proofs.Plans.{plan-none, plan-add}
 use Rattle.counting.proofs.Choice.{unchosen-only, unchosen-greatest}
 use Rattle.free_plan.specs.Greedy.{pick, greedy}
 use Rattle.counting.specs.Sites.{Sub, Plan}
@@ -20,19 +19,6 @@ use Rattle.counting.specs.Sites.{Sub, Plan}
 -- a list with more sites behind it holds those that it had
 pub sub-append : (S T : List ℕ) → Sub S (S ++ T)
 sub-append S T a h = rw has-append (or-left (has a S) (has a T) h)
-
--- no site is a plan of none
-pub plan-none : {m : ℕ} → Plan m 0 []
-plan-none = record { sites = λ a h. absurd (true≢false (sym h)); apart = refl; size = refl }
-
--- a plan with a new site behind it is a plan
-pub plan-add : {m i : ℕ} {S : List ℕ} → Plan m i S → (a : ℕ) → 0 < a → a ≤ m → has a S ≡ false → Plan m (suc i) (S ++ (a ∷ []))
-plan-add {S = S} p a low high new =
-    record {
-      sites = λ b h. ⊎-elim (p .sites b) (λ e. rw e (low, high)) (has-last b a S h);
-      apart = distinct-last a S (p .apart) new;
-      size = omega (arith, length-append S (a ∷ []), p .size);
-    }
 
 module _ (v : ℕ → ℕ → ℕ) (n m : ℕ) where
   -- a round makes a plan of one site more, while a site is left

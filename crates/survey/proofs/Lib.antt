@@ -1,3 +1,4 @@
 pub mod Laws
 pub mod Sound
 pub mod Places
+pub mod Lists
