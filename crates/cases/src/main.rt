@@ -9,7 +9,7 @@ ghost use Prim.Native.Nat.{_≤_, _<_};
 ghost use Rattle.io.specs.Counts.{Counts};
 
 // the last command, the most cases, and the most bytes up to the end of a number
-const LAST: usize = 9;
+const LAST: usize = 10;
 
 const CASES: u64 = 10000;
 
@@ -323,6 +323,46 @@ fn floor_case() {
     say_answer(planner::floor(n, m, k, &scores[..s_len], &rows[..r_len]));
 }
 
+// A file that is written, and its buffer.
+fn written(
+    n: usize,
+    m: usize,
+    k: usize,
+    kind: usize,
+    scores: &[u16],
+    rows: &[u8],
+    file: &mut [u8],
+) {
+    say_answer(planner::write_file(n, m, k, kind, scores, rows, file));
+    say_buffer(b" file", file);
+}
+
+// Command 10: the streets, the sites, the chosen, the kind; the scores; the rows; the file's buffer.
+fn write_case() {
+    let n = number(BOUND);
+    let m = number(BOUND);
+    let k = number(BOUND);
+    let kind = number(BOUND);
+    let s = scores_list();
+    let r = bytes_list();
+    let f = bytes_list();
+    let scores = s.buffer;
+    let s_len = s.len;
+    let rows = r.buffer;
+    let r_len = r.len;
+    let mut file = f.buffer;
+    let f_len = f.len;
+    written(
+        n,
+        m,
+        k,
+        kind,
+        &scores[..s_len],
+        &rows[..r_len],
+        &mut file[..f_len],
+    );
+}
+
 // The line of one case; false where the command is none, which ends the run.
 fn one_case(case: u64, command: usize) -> bool {
     if LAST < command {
@@ -339,7 +379,8 @@ fn one_case(case: u64, command: usize) -> bool {
         6 => plan_case(false),
         7 => division_case(true),
         8 => plan_case(true),
-        _ => floor_case(),
+        9 => floor_case(),
+        _ => write_case(),
     }
     io::write_all(STDOUT_FILENO, b"\n");
     true

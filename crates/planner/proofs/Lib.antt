@@ -1,3 +1,4 @@
 pub mod Laws
 pub mod Freely
 pub mod Evenly
+pub mod Files

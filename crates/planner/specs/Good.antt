@@ -2,10 +2,12 @@
 -- Assumes nothing.
 use mathlib.Core.Path.{_≡_}
 use mathlib.Core.List.{List}
+use lib.ListN.{take}
 use Prim.Native.Nat.{ℕ, _-_, _*_, _^_, _≤_}
 use Rattle.counting.specs.Sites.{Plan}
 use Rattle.division.specs.Shares.{InShares}
 use Rattle.division.specs.Divide.{First}
+use Rattle.survey_file.specs.Decode.{decode, Given}
 use Rattle.planner.specs.Plans.{listTotal, planTotal, sharesFor, planFloor}
 
 -- a free plan of k sites with the total that it reports
@@ -38,3 +40,8 @@ pub record GoodBalanced (n m k : ℕ) (scores rows division chosen : List ℕ) (
   pub best : BestDivision n m scores rows chosen division reported
   -- the total is at least the floor
   pub floor : planFloor n m k scores rows ≤ reported
+
+-- a survey that was written: the first bytes of the buffer are a file that reading gives back as this very survey
+pub record Written (n m k kind : ℕ) (scores rows file : List ℕ) (size : ℕ) : Type 0 where
+  pub short : size ≤ 27739
+  pub read-back : decode (take size file) ≡ Given n m k kind scores rows

@@ -3,10 +3,12 @@
 ghost use mathlib.Core.Path.{_≡_};
 ghost use mathlib.Core.Bool.{true};
 ghost use Rattle.survey.specs.Rows.{rankedPart, scoreOf};
+ghost use lib.ListN.{length};
 ghost use Rattle.counting.specs.Buffers.{after};
-ghost use Rattle.refusals.specs.Refusals.{checkRefusal, rowScoreRefusal, listTotalRefusal, freeDivisionRefusal, balancedDivisionRefusal, freePlanRefusal, balancedPlanRefusal, floorRefusal};
-ghost use Rattle.planner.specs.Plans.{listTotal, freeDivision, freeSites, planTotal, balancedDivision, balancedSites, balancedTotal, planFloor};
-ghost use Rattle.planner.specs.Good.{GoodFree, BestDivision, GoodBalanced};
+ghost use Rattle.survey_file.specs.Encode.{encode};
+ghost use Rattle.refusals.specs.Refusals.{checkRefusal, rowScoreRefusal, listTotalRefusal, freeDivisionRefusal, balancedDivisionRefusal, freePlanRefusal, balancedPlanRefusal, floorRefusal, writeRefusal};
+ghost use Rattle.planner.specs.Plans.{listTotal, freeDivision, freeSites, planTotal, balancedDivision, balancedSites, balancedTotal, planFloor, fileWritten};
+ghost use Rattle.planner.specs.Good.{GoodFree, BestDivision, GoodBalanced, Written};
 ghost use Rattle.planner.specs.Answers.{Answered, Told, checkedNumber, checkedAccepts, number, accepts, total};
 
 // The answer of a check.
@@ -155,4 +157,28 @@ pub fn floor(n: usize, m: usize, k: usize, scores: &[u16], rows: &[u8]) -> Answe
         return Answer::Refused(x);
     }
     Answer::Total(floors::floor(n, m, k, scores, rows))
+}
+
+// Writes the survey file into a buffer of any length and returns the file's length; no byte behind it changes. Refuses with 1, 2, 3, 4, 6, 8, 9,
+// 10, 11 or 7.
+pub fn write_file(
+    n: usize,
+    m: usize,
+    k: usize,
+    kind: usize,
+    scores: &[u16],
+    rows: &[u8],
+    file: &mut [u8],
+) -> Answer
+    ensures answer { λ r. ⌜ Told (number r) (accepts r) (total r) (writeRefusal n m k kind (now (scores .entry)) (now (rows .entry)) (now (file .entry))) (length (encode n m k kind (now (scores .entry)) (now (rows .entry)))) ⌝ }
+    ensures file { λ _. ⌜ now (file .exit) ≡ after (writeRefusal n m k kind (now (scores .entry)) (now (rows .entry)) (now (file .entry))) (fileWritten n m k kind (now (scores .entry)) (now (rows .entry)) (now (file .entry))) (now (file .entry)) ⌝ }
+    ensures back { λ r. ⌜ (accepts r ≡ true → Written n m k kind (now (scores .entry)) (now (rows .entry)) (now (file .exit)) (total r)) ⌝ }
+{
+    let x = file_refusals::write_refusal(n, m, k, kind, scores, rows, file);
+    if x != 0 {
+        return Answer::Refused(x);
+    }
+    let size = file_writer::file_length(n, m, rows);
+    file_writer::write(n, m, k, kind, scores, rows, file);
+    Answer::Total(size as u32)
 }

@@ -1,0 +1,49 @@
+// What the calls on files turn down: the number that its definition gives, and 0 where the call is accepted.
+use survey::check;
+ghost use mathlib.Core.Path.{_≡_};
+ghost use Prim.Native.Nat.{_≤_, _*_};
+ghost use lib.Dec.{ltb};
+ghost use lib.ListN.{length};
+ghost use Rattle.counting.specs.Words.{_when_};
+ghost use Rattle.survey.specs.Refusals.{kindRefusal};
+ghost use Rattle.survey_file.specs.Encode.{encode};
+ghost use Rattle.refusals.specs.Refusals.{writeRefusal};
+
+// 4: a kind that is neither free nor balanced.
+fn kind_refusal(kind: usize) -> u8
+    ensures { λ r. ⌜ r ≡ kindRefusal kind ⌝ }
+{
+    if 1 < kind {
+        return 4;
+    }
+    0
+}
+
+// 7: a file buffer that is shorter than the file to be written.
+fn room_refusal(given: usize, due: usize) -> u8
+    ensures { λ r. ⌜ r ≡ 7 when ltb given due ⌝ }
+{
+    if given < due {
+        return 7;
+    }
+    0
+}
+
+// Writing a file.
+pub fn write_refusal(
+    n: usize,
+    m: usize,
+    k: usize,
+    kind: usize,
+    scores: &[u16],
+    rows: &[u8],
+    file: &[u8],
+) -> u8
+    ensures { λ r. ⌜ r ≡ writeRefusal n m k kind (now (scores .entry)) (now (rows .entry)) (now (file .entry)) ⌝ }
+{
+    let r = check::survey_refusal(n, m, k, kind_refusal(kind), scores, rows);
+    if r != 0 {
+        return r;
+    }
+    room_refusal(file.len(), file_writer::file_length(n, m, rows))
+}

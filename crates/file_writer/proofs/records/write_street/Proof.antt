@@ -1,0 +1,73 @@
+-- `file_writer::records::write_street` meets its contract. Assumes nothing.
+use borrow.Author.Needs.{needs}
+use native.Mathlib.Omega.{arith}
+use Prim.Native.Nat.{_+_, _≤_}
+use lib.ListN.{length, length-set}
+use Rattle.survey_file.specs.Encode.{listBytes}
+use Rattle.file_writer.specs.Written.{Written}
+use Rattle.file_writer.proofs.Laying.{written-size, written-next, written-byte}
+use Rattle.file_writer.proofs.records.write_street.Statement.{statement}
+use Rattle.file_writer.proofs.records.write_street.Tie as tie
+
+-- there is room for the length and the list behind the two words
+room : (c : tie.After-slice-known3) →
+    let a = c .before .before .before .before .before .before .before .before .before .before .args in
+    let w = c .before .before .write-word2 in
+    w .result + 1 + length (a .list .now) ≤ length (w .last .1 .0)
+room c =
+    let first = c .before .before .before .before .before .before .write-word .ensures in
+    let second = c .before .before .write-word2 .ensures in
+    omega (arith, c .before .before .before .before .before .before .before .before .before .before .pre .1, first .behind, second .behind)
+
+-- the words, the length and the list are the record
+street : (c : tie.After-slice-known4) →
+    let a = c .before .before .before .before .before .before .before .before .before .before .before .before .before .before .args in
+    let w = c .before .before .write-list in
+    Written (a .file .now) (a .i) (listBytes (a .number) (a .list .now)) (w .last .1 .0) (w .result)
+street c =
+    let a = c .before .before .before .before .before .before .before .before .before .before .before .before .before .before .args in
+    let w = c .before .before .before .before .before .before .write-word2 in
+    let size = written-byte (w .last .1 .0) (w .result) (length (a .list .now)) (let r = room (c .before .before .before .before) in omega arith) in
+    let mark = c .before .before .before .before .before .before .before .before .before .before .write-word .ensures in
+    written-next (written-next mark (w .ensures)) (written-next size (c .before .before .write-list .ensures))
+
+write-word-requires : tie.Need-write-word-requires
+write-word-requires c κs = search needs
+
+write-word-requires-2 : tie.Need-write-word-requires-2
+write-word-requires-2 c κs = search needs
+
+cast-file : tie.Need-cast-file
+cast-file c = search needs
+
+slice-write-file : tie.Need-slice-write-file
+slice-write-file c = search needs
+
+add-write-list : tie.Need-add-write-list
+add-write-list c = search needs
+
+write-list-requires : tie.Need-write-list-requires
+write-list-requires c κs =
+    let r = room (c .before) in
+    let w = c .before .before .before .write-word2 in
+    let a = c .before .before .before .before .before .before .before .before .before .before .before .args in
+    omega (arith, length-set (w .last .1 .0) (w .result) (length (a .list .now)))
+
+same-length : tie.Need-same-length
+same-length c = written-size (street c)
+
+returns : tie.Need-returns
+returns c = street c
+
+pub write-street-spec : {M : Type 1} → statement M
+write-street-spec =
+    tie.close
+    (tie.spec
+    write-word-requires
+    write-word-requires-2
+    cast-file
+    slice-write-file
+    add-write-list
+    write-list-requires
+    same-length
+    returns)

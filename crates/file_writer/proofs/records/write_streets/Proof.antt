@@ -1,0 +1,76 @@
+-- `file_writer::records::write_streets` meets its contract. Assumes nothing.
+use borrow.Author.Needs.{needs}
+use native.Mathlib.Omega.{arith}
+use Prim.Native.Nat.{_≤_, _-_}
+use Rattle.counting.specs.Buffers.{joined}
+use Rattle.counting.proofs.Tables.{row-within}
+use Rattle.survey_file.specs.Encode.{streetBytes}
+use Rattle.file_writer.specs.Written.{Written}
+use Rattle.file_writer.proofs.Laying.{written-size, turns-none, turns-room, turns-more, turns-all}
+use Rattle.file_writer.proofs.Encoded.{street-fits, street-written}
+use Rattle.file_writer.proofs.records.write_streets.Statement.{statement}
+use Rattle.file_writer.proofs.records.write_streets.Tie as tie
+
+abbrev Inv-loop : tie.InvT-loop
+Inv-loop n m rows file₀ i next₀ s₀ file next s = (s ≤ n) × Written file₀ i (joined s (streetBytes m rows)) file next
+
+abbrev μ-loop : tie.MeasureT-loop
+μ-loop n m rows file₀ i next₀ s₀ file next s = n - s
+
+loop-holds : tie.Need-loop-holds Inv-loop μ-loop
+loop-holds c = let a = c .before .before .args in (search needs, turns-none (a .file .now) (a .i) _ (omega (arith, c .before .before .pre .3)))
+
+add-write-street : tie.Need-add-write-street Inv-loop μ-loop
+add-write-street c = search needs
+
+cast-write-street : tie.Need-cast-write-street Inv-loop μ-loop
+cast-write-street c = omega (arith, c .before .before .before .before .pre .0)
+
+list-of-requires : tie.Need-list-of-requires Inv-loop μ-loop
+list-of-requires c κs =
+    let a = c .before .before .before .before .args in
+    omega (arith, row-within (a .n) (a .m) (c .before .loop .s) (omega arith), c .before .before .before .before .pre .2)
+
+write-street-requires : tie.Need-write-street-requires Inv-loop μ-loop
+write-street-requires c κs =
+    let a = c .before .before .before .before .before .before .args in
+    let p = c .before .before .before .before .before .before .pre in
+    let l = c .before .before .before .loop in
+    let room = turns-room (streetBytes (a .m) (a .rows .now)) (l .inv .1) (a .n) (omega arith) (p .3) in
+    street-fits (a .m) (a .rows .now) (l .s) _ (c .before .list-of .ensures) (l .next) (l .file) (p .1) room
+
+add-s : tie.Need-add-s Inv-loop μ-loop
+add-s c = search needs
+
+loop-less : tie.Need-loop-less Inv-loop μ-loop
+loop-less c = search needs
+
+loop-again : tie.Need-loop-again Inv-loop μ-loop
+loop-again c =
+    let a = c .before .before .before .before .before .before .before .before .before .args in
+    let l = c .before .before .before .before .before .before .loop in
+    let list = c .before .before .before .before .list-of .ensures in
+    (omega arith, turns-more _ (l .inv .1) (street-written (a .m) (a .rows .now) (l .s) _ list (c .before .before .write-street .ensures)))
+
+same-length : tie.Need-same-length Inv-loop μ-loop
+same-length c = written-size (c .before .loop .inv .1)
+
+returns : tie.Need-returns Inv-loop μ-loop
+returns c = turns-all _ (c .before .loop .inv .1) _ (omega arith) (omega arith)
+
+pub write-streets-spec : {M : Type 1} → statement M
+write-streets-spec =
+    tie.close
+    (tie.spec
+    Inv-loop
+    μ-loop
+    loop-holds
+    add-write-street
+    cast-write-street
+    list-of-requires
+    write-street-requires
+    add-s
+    loop-less
+    loop-again
+    same-length
+    returns)

@@ -1,0 +1,43 @@
+// Writing a survey file: how long it is, and its bytes, laid over a buffer from the start on.
+ghost use mathlib.Core.Path.{_≡_};
+ghost use mathlib.Core.List.{List};
+ghost use Prim.Native.Nat.{ℕ, _*_, _≤_};
+ghost use lib.ListN.{length};
+ghost use Rattle.counting.specs.Buffers.{laid};
+ghost use Rattle.survey.specs.Accepted.{Accepted};
+ghost use Rattle.survey_file.specs.Encode.{encode};
+
+pub mod records;
+
+// The length of a file, whatever its scores: 11 bytes and two for each score, and for each street 5 bytes and its list.
+pub fn file_length(n: usize, m: usize, rows: &[u8]) -> usize
+    requires { ⌜ (n ≤ 400) × (m ≤ 64) × (length (now rows) ≡ n * m) ⌝ }
+    ensures { λ r. ⌜ ((k kind : ℕ) (scores : List ℕ) → r ≡ length (encode n m k kind scores (now (rows .entry)))) ⌝ }
+{
+    let mut size = 11 + 2 * m;
+    for s in 0..n {
+        size = size + 5 + records::list_of(m, rows, s).len();
+    }
+    size
+}
+
+// The file of a survey. No byte behind it changes.
+pub fn write(
+    n: usize,
+    m: usize,
+    k: usize,
+    kind: usize,
+    scores: &[u16],
+    rows: &[u8],
+    file: &mut [u8],
+)
+    requires { ⌜ Accepted n m (now scores) (now rows) ⌝ }
+    requires { ⌜ (k ≤ m) × (kind ≤ 1) ⌝ }
+    requires { ⌜ length (encode n m k kind (now scores) (now rows)) ≤ length (now file) ⌝ }
+    ensures { λ _. ⌜ now (file .exit) ≡ laid (now (file .entry)) 0 (encode n m k kind (now (scores .entry)) (now (rows .entry))) ⌝ }
+{
+    let behind_town = records::write_town(n, m, k, kind, file, 0);
+    let behind_scores = records::write_scores(m, scores, file, behind_town);
+    let behind_streets = records::write_streets(n, m, rows, file, behind_scores);
+    records::write_word(records::END, file, behind_streets);
+}

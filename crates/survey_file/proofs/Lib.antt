@@ -1,0 +1,11 @@
+pub mod Tries
+pub mod Joined
+pub mod Bytes
+pub mod Rows
+pub mod Accepting
+pub mod Records
+pub mod Streets
+pub mod Fronts
+pub mod ReadBack
+pub mod WrittenBack
+pub mod Lengths
