@@ -1,0 +1,4 @@
+pub mod Tries
+pub mod Reading
+pub mod Walking
+pub mod Whole

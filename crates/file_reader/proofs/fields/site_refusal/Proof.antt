@@ -1,0 +1,19 @@
+-- `file_reader::fields::site_refusal` meets its contract. Assumes nothing.
+use Rattle.counting.proofs.Refusals.{chain}
+use Rattle.file_reader.proofs.fields.site_refusal.Statement.{statement}
+use Rattle.file_reader.proofs.fields.site_refusal.Tie as tie
+
+returns : tie.Need-returns
+returns c = search chain depth 20
+
+returns-2 : tie.Need-returns-2
+returns-2 c = search chain depth 20
+
+returns-3 : tie.Need-returns-3
+returns-3 c = search chain depth 20
+
+returns-4 : tie.Need-returns-4
+returns-4 c = search chain depth 20
+
+pub site-refusal-spec : {M : Type 1} → statement M
+site-refusal-spec = tie.close (tie.spec returns returns-2 returns-3 returns-4)

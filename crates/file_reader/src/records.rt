@@ -1,0 +1,134 @@
+// One record of a survey file: its mark decides which one is read, and its fields come back in the answer, or the refusal's number.
+use crate::fields;
+ghost use mathlib.Core.Path.{_≡_};
+ghost use Prim.Native.Nat.{_≤_};
+ghost use lib.ListN.{length, drop};
+ghost use Rattle.survey_file.specs.Decode.{townFields, scoresFields, streetFields, endFields};
+ghost use Rattle.file_reader.specs.Answers.{recordUnless, townIn, streetIn, recordOf, numberOf};
+
+// The record that is due, with what its fields are held against: the number of sites, and the number of the street.
+pub enum Due {
+    Town,
+    Scores { m: u8 },
+    Street { m: u8, number: usize },
+    End,
+}
+
+// What reading a record gives: the sizes and the kind of a town, the scores, the length of a street's list, the end, or the refusal's number.
+pub enum Record {
+    Town { n: usize, m: u8, k: u8, kind: u8 },
+    Scores,
+    Street { size: usize },
+    End,
+    Refused(u8),
+}
+
+// The number of a refusal, and 0 where a record was read.
+pub fn number_of(answer: Record) -> u8
+    ensures { λ r. ⌜ r ≡ numberOf answer ⌝ }
+{
+    match answer {
+        Record::Refused(x) => x,
+        _ => 0,
+    }
+}
+
+// The record TN, past its mark.
+fn town_in(rest: &[u8]) -> Record
+    ensures { λ r. ⌜ r ≡ recordUnless (townFields (now (rest .entry))) (townIn (now (rest .entry))) ⌝ }
+{
+    let x = fields::town_refusal(rest);
+    if x != 0 {
+        return Record::Refused(x);
+    }
+    Record::Town {
+        n: fields::word_at(rest, 2),
+        m: rest[4],
+        k: rest[5],
+        kind: rest[6],
+    }
+}
+
+// The record SC, past its mark.
+fn scores_in(rest: &[u8], m: u8) -> Record
+    ensures { λ r. ⌜ r ≡ recordUnless (scoresFields m (now (rest .entry))) Record.Scores ⌝ }
+{
+    let x = fields::scores_refusal(rest, m);
+    if x != 0 {
+        return Record::Refused(x);
+    }
+    Record::Scores
+}
+
+// The record ST, past its mark.
+fn street_in(rest: &[u8], m: u8, number: usize) -> Record
+    ensures { λ r. ⌜ r ≡ recordUnless (streetFields m number (now (rest .entry))) (streetIn (now (rest .entry))) ⌝ }
+{
+    let x = fields::street_refusal(rest, m, number);
+    if x != 0 {
+        return Record::Refused(x);
+    }
+    Record::Street {
+        size: rest[4] as usize,
+    }
+}
+
+// The record EN, past its mark.
+fn end_in(rest: &[u8]) -> Record
+    ensures { λ r. ⌜ r ≡ recordUnless (endFields (now (rest .entry))) Record.End ⌝ }
+{
+    let x = fields::end_refusal(rest);
+    if x != 0 {
+        return Record::Refused(x);
+    }
+    Record::End
+}
+
+// The record that is due, out of all bytes from its mark on.
+fn record_in(rest: &[u8], due: Due) -> Record
+    ensures { λ r. ⌜ r ≡ recordOf due (now (rest .entry)) ⌝ }
+{
+    if rest.len() < 2 {
+        return Record::Refused(12);
+    }
+    let mark = fields::word_at(rest, 0);
+    match mark {
+        // TN
+        0x4E54 => {
+            let Due::Town = due else {
+                return Record::Refused(13);
+            };
+            town_in(rest)
+        }
+        // SC
+        0x4353 => {
+            let Due::Scores { m } = due else {
+                return Record::Refused(13);
+            };
+            scores_in(rest, m)
+        }
+        // ST
+        0x5453 => {
+            let Due::Street { m, number } = due else {
+                return Record::Refused(13);
+            };
+            street_in(rest, m, number)
+        }
+        // EN
+        0x4E45 => {
+            let Due::End = due else {
+                return Record::Refused(13);
+            };
+            end_in(rest)
+        }
+        _ => Record::Refused(13),
+    }
+}
+
+// The record that is due at an index of a file.
+pub fn record_at(file: &[u8], at: usize, due: Due) -> Record
+    requires { ⌜ at ≤ length (now file) ⌝ }
+    ensures { λ r. ⌜ r ≡ recordOf due (drop at (now (file .entry))) ⌝ }
+{
+    record_in(&file[at..], due)
+}
