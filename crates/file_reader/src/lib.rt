@@ -61,3 +61,13 @@ pub fn check(file: &[u8]) -> Checked
         kind: kind as usize,
     }
 }
+
+// The number of an answer, 0 where the sizes are given.
+pub fn number_of(answer: Checked) -> u8
+    ensures { λ r. ⌜ r ≡ checkedNumber answer ⌝ }
+{
+    match answer {
+        Checked::Refused(x) => x,
+        _ => 0,
+    }
+}

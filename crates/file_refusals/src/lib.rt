@@ -7,7 +7,7 @@ ghost use lib.ListN.{length};
 ghost use Rattle.counting.specs.Words.{_when_};
 ghost use Rattle.survey.specs.Refusals.{kindRefusal};
 ghost use Rattle.survey_file.specs.Encode.{encode};
-ghost use Rattle.refusals.specs.Refusals.{writeRefusal};
+ghost use Rattle.refusals.specs.Refusals.{writeRefusal, readRefusal};
 
 // 4: a kind that is neither free nor balanced.
 fn kind_refusal(kind: usize) -> u8
@@ -46,4 +46,17 @@ pub fn write_refusal(
         return r;
     }
     room_refusal(file.len(), file_writer::file_length(n, m, rows))
+}
+
+// Reading a file into its two buffers.
+pub fn read_refusal(file: &[u8], rows: &[u8], scores: &[u16]) -> u8
+    ensures { λ r. ⌜ r ≡ readRefusal (now (file .entry)) (now (rows .entry)) (now (scores .entry)) ⌝ }
+{
+    if rows.len() != 25600 {
+        return 6;
+    }
+    if scores.len() != 64 {
+        return 6;
+    }
+    file_reader::number_of(file_reader::check(file))
 }

@@ -3,26 +3,31 @@
 use mathlib.Core.Path.{_≡_, refl, sym, ap, _∙_}
 use mathlib.Core.Bool.{true}
 use mathlib.Core.List.{List}
-use Prim.Native.Nat.{ℕ, _≤_}
+use Prim.Native.Nat.{ℕ, zero, suc, _≤_, _<_}
 use native.Mathlib.Omega.{arith}
-use native.Mathlib.Nat.{zero-add}
+use native.Mathlib.Nat.{zero-add, suc-ne-zero}
 use lib.Dec.{ltb, lit<}
 use lib.ListN.{length, take, drop}
 use lib.Seq.{take-at}
 use borrow.Author.Tests.{ltb-false}
 use Rattle.counting.specs.Words.{_when_}
 use Rattle.counting.specs.Buffers.{after, laid}
-use Rattle.counting.proofs.Refusals.{or-zero, when-zero}
-use Rattle.survey.specs.Refusals.{kindRefusal, surveyRefusal}
+use Rattle.counting.specs.Lists.{at}
+use Rattle.counting.proofs.Refusals.{or-zero, when-zero, exact}
+use Rattle.survey.specs.Refusals.{kindRefusal, lengthRefusal, surveyRefusal}
 use Rattle.survey.specs.Accepted.{Accepted}
 use Rattle.survey.proofs.Sound.{accepted, chosen-within, own-accepted}
 use Rattle.survey_file.specs.Encode.{encode}
+use Rattle.survey_file.specs.Decode.{streetsIn, sitesIn, chosenIn, kindIn, fileRefusal}
 use Rattle.survey_file.proofs.ReadBack.{decode-encode}
+use Rattle.survey_file.proofs.WrittenBack.{encode-decode, decode-accepted}
+use Rattle.file_filling.proofs.Filled.{sizes}
 use Rattle.survey_file.proofs.Lengths.{encode-most}
-use Rattle.refusals.specs.Refusals.{writeRefusal}
+use Rattle.refusals.specs.Refusals.{writeRefusal, readRefusal}
+use Rattle.planner.specs.declared.Read.the-variants as read
 use Rattle.planner.specs.Plans.{fileWritten}
-use Rattle.planner.specs.Answers.{Told}
-use Rattle.planner.specs.Good.{Written}
+use Rattle.planner.specs.Answers.{Told, readAnswer}
+use Rattle.planner.specs.Good.{Written, Filled}
 use Rattle.planner.proofs.Laws.{told-total, new-accepted}
 
 module _ (n m k kind : ℕ) (scores rows file : List ℕ) (e : writeRefusal n m k kind scores rows file ≡ 0) where
@@ -64,3 +69,30 @@ pub write-given : (n m k kind : ℕ) (scores rows file : List ℕ) (r : ℕ) →
 write-given n m k kind scores rows file r e z now t size bytes =
     let x : ℕ = writeRefusal n m k kind scores rows file in
     (told-total r x t _ e z size, (new-accepted r x _ file now e z bytes, λ y. rw (bytes, size) (written n m k kind scores rows file (sym e ∙ z))))
+
+-- ---- reading
+module _ (file rows scores : List ℕ) (e : readRefusal file rows scores ≡ 0) where
+  -- a call that is not refused has buffers of the right lengths and a file that is not refused
+  pub read-parts : (length rows ≡ 25600) × (length scores ≡ 64) × (fileRefusal file ≡ 0)
+  read-parts =
+      let (first, rest) = or-zero (lengthRefusal (length rows) 25600) _ e in
+      let (second, third) = or-zero (lengthRefusal (length scores) 64) (fileRefusal file) rest in
+      (exact 6 (length rows) 25600 (lit< tt) first, exact 6 (length scores) 64 (lit< tt) second, third)
+
+  -- the town's fields are there
+  pub read-room : 9 ≤ length file
+  read-room = omega (arith, sizes file (read-parts .2) .2)
+
+-- the reader's answer where the file is refused, and where it is not
+pub read-refused : (r x : ℕ) (file : List ℕ) → r ≡ x → (r ≡ 0 → ⊥) → read.Refused r ≡ readAnswer x file
+read-refused r zero file e h = absurd (h e)
+read-refused r (suc x) file e h = ap (λ (y : ℕ). read.Refused y) e
+
+pub read-accepted : (r x : ℕ) (file : List ℕ) (n m k kind : ℕ) → r ≡ x → r ≡ 0 → n ≡ streetsIn file → m ≡ sitesIn file → k ≡ chosenIn file
+    → kind ≡ kindIn file → read.Survey n m k kind ≡ readAnswer x file
+read-accepted r zero file n m k kind e z a b c d = rw (a, b, c, d) refl
+read-accepted r (suc x) file n m k kind e z a b c d = absurd (suc-ne-zero x (sym e ∙ z))
+
+-- a file that is not refused was written from what is read of it
+pub filled : (file : List ℕ) → ((i : ℕ) → at file i < 256) → fileRefusal file ≡ 0 → Filled file
+filled file bytes ok = record { accepted = decode-accepted file ok; written-back = encode-decode file ok bytes }

@@ -1,14 +1,18 @@
 -- What the entries' answers say, case by case: document 01's number, 0 where the call is accepted, and the total, 0 where it is refused.
 -- Assumes nothing.
-use Prim.Native.Nat.{ℕ}
+use Prim.Native.Nat.{ℕ, zero, suc}
 use mathlib.Core.Path.{_≡_}
 use mathlib.Core.Bool.{Bool, true, false}
+use mathlib.Core.List.{List}
 use lib.Dec.{eqb}
 use Rattle.counting.specs.Words.{_when_}
+use Rattle.survey_file.specs.Decode.{streetsIn, sitesIn, chosenIn, kindIn}
 use Rattle.planner.specs.declared.Checked.{Checked}
 use Rattle.planner.specs.declared.Checked.the-variants as checked
 use Rattle.planner.specs.declared.Answer.{Answer}
 use Rattle.planner.specs.declared.Answer.the-variants as answer
+use Rattle.planner.specs.declared.Read.{Read}
+use Rattle.planner.specs.declared.Read.the-variants as read
 
 -- a check's answer
 abbrev pub checkedNumber : Checked → ℕ
@@ -41,3 +45,8 @@ pub record Answered (said : ℕ) (accepted : Bool) (x : ℕ) : Type 0 where
 pub record Told (said : ℕ) (accepted : Bool) (reported x t : ℕ) : Type 0 where
   pub answered : Answered said accepted x
   pub right-total : reported ≡ t when eqb x 0
+
+-- the reader's answer to a file whose first refusal is x: the file's sizes and kind where it is 0, else that number
+abbrev pub readAnswer : ℕ → List ℕ → Read
+readAnswer zero file = read.Survey (streetsIn file) (sitesIn file) (chosenIn file) (kindIn file)
+readAnswer (suc x) file = read.Refused (suc x)

@@ -7,7 +7,9 @@ use Prim.Native.Nat.{ℕ, _-_, _*_, _^_, _≤_}
 use Rattle.counting.specs.Sites.{Plan}
 use Rattle.division.specs.Shares.{InShares}
 use Rattle.division.specs.Divide.{First}
-use Rattle.survey_file.specs.Decode.{decode, Given}
+use Rattle.survey.specs.Refusals.{kindRefusal, surveyRefusal}
+use Rattle.survey_file.specs.Encode.{encode}
+use Rattle.survey_file.specs.Decode.{decode, Given, streetsIn, sitesIn, chosenIn, kindIn, scoresIn, scoresPart, rowsIn}
 use Rattle.planner.specs.Plans.{listTotal, planTotal, sharesFor, planFloor}
 
 -- a free plan of k sites with the total that it reports
@@ -45,3 +47,8 @@ pub record GoodBalanced (n m k : ℕ) (scores rows division chosen : List ℕ) (
 pub record Written (n m k kind : ℕ) (scores rows file : List ℕ) (size : ℕ) : Type 0 where
   pub short : size ≤ 27739
   pub read-back : decode (take size file) ≡ Given n m k kind scores rows
+
+-- a file that was read: what was filled in is an accepted survey of its kind, and writing it gives back this very file
+pub record Filled (file : List ℕ) : Type 0 where
+  pub accepted : surveyRefusal (streetsIn file) (sitesIn file) (chosenIn file) (kindRefusal (kindIn file)) (scoresIn (sitesIn file) (scoresPart file)) (rowsIn file) ≡ 0
+  pub written-back : encode (streetsIn file) (sitesIn file) (chosenIn file) (kindIn file) (scoresIn (sitesIn file) (scoresPart file)) (rowsIn file) ≡ file

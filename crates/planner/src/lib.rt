@@ -1,15 +1,16 @@
 // The library: every entry that a caller may call. Each checks its own input, on any input whatever, and answers with its result or with
 // one of document 01's numbers; a refusal leaves the caller's buffers as they were.
+use file_reader::fields;
 ghost use mathlib.Core.Path.{_≡_};
 ghost use mathlib.Core.Bool.{true};
 ghost use Rattle.survey.specs.Rows.{rankedPart, scoreOf};
 ghost use lib.ListN.{length};
 ghost use Rattle.counting.specs.Buffers.{after};
 ghost use Rattle.survey_file.specs.Encode.{encode};
-ghost use Rattle.refusals.specs.Refusals.{checkRefusal, rowScoreRefusal, listTotalRefusal, freeDivisionRefusal, balancedDivisionRefusal, freePlanRefusal, balancedPlanRefusal, floorRefusal, writeRefusal};
-ghost use Rattle.planner.specs.Plans.{listTotal, freeDivision, freeSites, planTotal, balancedDivision, balancedSites, balancedTotal, planFloor, fileWritten};
-ghost use Rattle.planner.specs.Good.{GoodFree, BestDivision, GoodBalanced, Written};
-ghost use Rattle.planner.specs.Answers.{Answered, Told, checkedNumber, checkedAccepts, number, accepts, total};
+ghost use Rattle.refusals.specs.Refusals.{checkRefusal, rowScoreRefusal, listTotalRefusal, freeDivisionRefusal, balancedDivisionRefusal, freePlanRefusal, balancedPlanRefusal, floorRefusal, writeRefusal, readRefusal};
+ghost use Rattle.planner.specs.Plans.{listTotal, freeDivision, freeSites, planTotal, balancedDivision, balancedSites, balancedTotal, planFloor, fileWritten, rowsRead, scoresRead};
+ghost use Rattle.planner.specs.Good.{GoodFree, BestDivision, GoodBalanced, Written, Filled};
+ghost use Rattle.planner.specs.Answers.{Answered, Told, checkedNumber, checkedAccepts, number, accepts, total, readAnswer};
 
 // The answer of a check.
 pub enum Checked {
@@ -20,6 +21,17 @@ pub enum Checked {
 // The answer of an entry that gives a total.
 pub enum Answer {
     Total(u32),
+    Refused(u8),
+}
+
+// The answer of the reader: the sizes and the kind of the survey that it has filled in.
+pub enum Read {
+    Survey {
+        n: usize,
+        m: usize,
+        k: usize,
+        kind: usize,
+    },
     Refused(u8),
 }
 
@@ -181,4 +193,27 @@ pub fn write_file(
     let size = file_writer::file_length(n, m, rows);
     file_writer::write(n, m, k, kind, scores, rows, file);
     Answer::Total(size as u32)
+}
+
+// Reads a survey file of any length into a buffer of 25,600 row bytes, of which the first n times m are filled, and one of 64 scores, of which the
+// first m are. Refuses with 6, 12, 13, 1, 2, 3, 4, 8, 14, 15, 10, 11 or 16.
+pub fn read_file(file: &[u8], rows: &mut [u8], scores: &mut [u16]) -> Read
+    ensures answer { λ r. ⌜ r ≡ readAnswer (readRefusal (now (file .entry)) (now (rows .entry)) (now (scores .entry))) (now (file .entry)) ⌝ }
+    ensures rows { λ _. ⌜ now (rows .exit) ≡ after (readRefusal (now (file .entry)) (now (rows .entry)) (now (scores .entry))) (rowsRead (now (file .entry)) (now (rows .entry))) (now (rows .entry)) ⌝ }
+    ensures scores { λ _. ⌜ now (scores .exit) ≡ after (readRefusal (now (file .entry)) (now (rows .entry)) (now (scores .entry))) (scoresRead (now (file .entry)) (now (scores .entry))) (now (scores .entry)) ⌝ }
+    ensures back { λ _. ⌜ (readRefusal (now (file .entry)) (now (rows .entry)) (now (scores .entry)) ≡ 0 → Filled (now (file .entry))) ⌝ }
+{
+    let x = file_refusals::read_refusal(file, rows, scores);
+    if x != 0 {
+        return Read::Refused(x);
+    }
+    let n = fields::word_at(file, 2);
+    let m = file[4] as usize;
+    file_filling::fill(file, n, m, rows, scores);
+    Read::Survey {
+        n,
+        m,
+        k: file[5] as usize,
+        kind: file[6] as usize,
+    }
 }
