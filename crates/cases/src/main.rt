@@ -5,11 +5,12 @@ use libc::STDIN_FILENO;
 use libc::STDOUT_FILENO;
 use planner::Answer;
 use planner::Checked;
+use planner::Read;
 ghost use Prim.Native.Nat.{_≤_, _<_};
 ghost use Rattle.io.specs.Counts.{Counts};
 
 // the last command, the most cases, and the most bytes up to the end of a number
-const LAST: usize = 10;
+const LAST: usize = 11;
 
 const CASES: u64 = 10000;
 
@@ -363,6 +364,47 @@ fn write_case() {
     );
 }
 
+// The reader's answer.
+fn say_read(answer: Read) {
+    match answer {
+        Read::Survey { n, m, k, kind } => {
+            say(b" streets ", n as u64);
+            say(b" sites ", m as u64);
+            say(b" chosen ", k as u64);
+            say(b" kind ", kind as u64);
+        }
+        Read::Refused(x) => say(b" refused ", x as u64),
+    }
+}
+
+// The first bytes of a list, at most eight.
+fn front(bytes: &[u8]) -> &[u8] {
+    if bytes.len() < 8 {
+        return bytes;
+    }
+    &bytes[..8]
+}
+
+// A file that is read, and the first bytes of its rows.
+fn read_in(file: &[u8], rows: &mut [u8], scores: &mut [u16]) {
+    say_read(planner::read_file(file, rows, scores));
+    say_buffer(b" rows", front(rows));
+}
+
+// Command 11: the file; the rows' buffer; the scores' buffer.
+fn read_case() {
+    let f = bytes_list();
+    let r = bytes_list();
+    let s = scores_list();
+    let file = f.buffer;
+    let f_len = f.len;
+    let mut rows = r.buffer;
+    let r_len = r.len;
+    let mut scores = s.buffer;
+    let s_len = s.len;
+    read_in(&file[..f_len], &mut rows[..r_len], &mut scores[..s_len]);
+}
+
 // The line of one case; false where the command is none, which ends the run.
 fn one_case(case: u64, command: usize) -> bool {
     if LAST < command {
@@ -380,7 +422,8 @@ fn one_case(case: u64, command: usize) -> bool {
         7 => division_case(true),
         8 => plan_case(true),
         9 => floor_case(),
-        _ => write_case(),
+        10 => write_case(),
+        _ => read_case(),
     }
     io::write_all(STDOUT_FILENO, b"\n");
     true
