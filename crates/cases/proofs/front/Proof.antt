@@ -1,21 +1,17 @@
+-- `cases::front` meets its contract. Assumes nothing.
 use borrow.Author.Needs.{needs}
 use mathlib.Core.Path.{sym}
 use native.Mathlib.Omega.{arith}
 use lib.Seq.{length-take-le}
 use Rattle.cases.proofs.front.Statement.{statement}
 use Rattle.cases.proofs.front.Tie as tie
-use Rattle.cases.proofs.front.Reads as reads
-use Rattle.cases.proofs.front.Lts as lts
 
--- src/main.rt:383:9
 returns : tie.Need-returns
 returns c = search needs
 
--- src/main.rt:385:5
 slice-aggregate-result : tie.Need-slice-aggregate-result
 slice-aggregate-result c = sym (length-take-le 8 (c .before .before .args .bytes .now) (omega arith))
 
--- src/main.rt:381:1
 returns-2 : tie.Need-returns-2
 returns-2 c = search needs
 

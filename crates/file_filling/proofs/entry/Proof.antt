@@ -1,3 +1,4 @@
+-- `file_filling::entry` meets its contract. Assumes nothing.
 use borrow.Author.Needs.{needs}
 use native.Mathlib.Omega.{arith}
 use mathlib.Core.Path.{_≡_, refl, sym, ap, _∙_}
@@ -8,25 +9,19 @@ use Rattle.counting.specs.Buffers.{Mapped}
 use Rattle.file_filling.proofs.Filled.{entry-none, entry-some}
 use Rattle.file_filling.proofs.entry.Statement.{statement}
 use Rattle.file_filling.proofs.entry.Tie as tie
-use Rattle.file_filling.proofs.entry.Reads as reads
-use Rattle.file_filling.proofs.entry.Lts as lts
 
--- src/lib.rt:35:9
 returns : tie.Need-returns
 returns c =
     let a = c .before .args in
     let p = c .before .pre in
     entry-none (a .file .now) (a .start) (a .size) (a .j) (omega arith)
 
--- src/lib.rt:37:10
 add-result : tie.Need-add-result
 add-result c = search needs
 
--- src/lib.rt:37:5
 shared-slice-read-result : tie.Need-shared-slice-read-result
 shared-slice-read-result c = search needs
 
--- src/lib.rt:30:1
 returns-2 : tie.Need-returns-2
 returns-2 c =
     let a = c .before .before .args in

@@ -1,3 +1,4 @@
+-- `file_filling::fill` meets its contract. Assumes nothing.
 use borrow.Author.Needs.{needs}
 use native.Mathlib.Omega.{arith}
 use mathlib.Core.Path.{_≡_, refl, sym, ap, _∙_}
@@ -8,12 +9,7 @@ use Rattle.counting.specs.Buffers.{Mapped}
 use Rattle.file_filling.proofs.Filled.{sizes, rows-laid, scores-laid}
 use Rattle.file_filling.proofs.fill.Statement.{statement}
 use Rattle.file_filling.proofs.fill.Tie as tie
-use Rattle.file_filling.proofs.fill.Reads as reads
-use Rattle.file_filling.proofs.fill.Lts as lts
-use Rattle.file_filling.proofs.fill_rows.Reads as fill-rows-reads
-use Rattle.file_filling.proofs.fill_scores.Reads as fill-scores-reads
 
--- src/lib.rt:72:5
 fill-scores-requires : tie.Need-fill-scores-requires
 fill-scores-requires c κs =
     let a = c .before .before .before .before .args in
@@ -21,22 +17,18 @@ fill-scores-requires c κs =
     let z = sizes (a .file .now) (p .0) in
     (omega (arith, z .2, p .2), omega (arith, z .1, p .2, p .4))
 
--- src/lib.rt:73:5
 fill-rows-requires : tie.Need-fill-rows-requires
 fill-rows-requires c κs =
     let a = c .before .before .before .before .before .before .before .before .args in
     let p = c .before .before .before .before .before .before .before .before .pre in
     (p .0, p .1, p .2, p .3)
 
--- src/lib.rt:67:1
 same-length : tie.Need-same-length
 same-length c = search needs
 
--- src/lib.rt:67:1
 same-length-2 : tie.Need-same-length-2
 same-length-2 c = search needs
 
--- src/lib.rt:67:1
 returns : tie.Need-returns
 returns c =
     let a = c .before .before .before .before .before .before .before .before .before .before .before .args in

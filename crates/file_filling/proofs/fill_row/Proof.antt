@@ -1,3 +1,4 @@
+-- `file_filling::fill_row` meets its contract. Assumes nothing.
 use borrow.Author.Needs.{needs}
 use native.Mathlib.Omega.{arith}
 use mathlib.Core.Path.{_≡_, refl, sym, ap, _∙_}
@@ -10,9 +11,6 @@ use Rattle.survey_file.specs.Decode.{listIn}
 use Rattle.file_filling.proofs.Filled.{list-of}
 use Rattle.file_filling.proofs.fill_row.Statement.{statement}
 use Rattle.file_filling.proofs.fill_row.Tie as tie
-use Rattle.file_filling.proofs.fill_row.Reads as reads
-use Rattle.file_filling.proofs.fill_row.Lts as lts
-use Rattle.file_filling.proofs.entry.Reads as entry-reads
 
 abbrev Inv-loop : tie.InvT-loop
 Inv-loop file from row₀ size start j₀ j-end row j = (j ≤ j-end) × (j-end ≡ length row₀) × Mapped (λ i x. at (listIn (drop from file)) i) row₀ row j
@@ -20,43 +18,33 @@ Inv-loop file from row₀ size start j₀ j-end row j = (j ≤ j-end) × (j-end 
 abbrev μ-loop : tie.MeasureT-loop
 μ-loop file from row₀ size start j₀ j-end row j = j-end - j
 
--- src/lib.rt:45:21
 add-size : tie.Need-add-size Inv-loop μ-loop
 add-size c = search needs
 
--- src/lib.rt:45:16
 shared-slice-read-size : tie.Need-shared-slice-read-size Inv-loop μ-loop
 shared-slice-read-size c = search needs
 
--- src/lib.rt:45:16
 cast-size : tie.Need-cast-size Inv-loop μ-loop
 cast-size c = omega (arith, c .shared-slice-known2 .given (c .before .before .before .args .from + 4))
 
--- src/lib.rt:46:17
 add-start : tie.Need-add-start Inv-loop μ-loop
 add-start c = search needs
 
--- src/lib.rt:47:5
 loop-holds : tie.Need-loop-holds Inv-loop μ-loop
 loop-holds c = (search needs, refl, mapped-none _ _)
 
--- src/lib.rt:48:18
 entry-requires : tie.Need-entry-requires Inv-loop μ-loop
 entry-requires c κs = omega (arith, c .before .before .before .before .before .pre)
 
--- src/lib.rt:48:9
 slice-write-row : tie.Need-slice-write-row Inv-loop μ-loop
 slice-write-row c = search needs
 
--- src/lib.rt:47:9
 add-j : tie.Need-add-j Inv-loop μ-loop
 add-j c = search needs
 
--- src/lib.rt:47:5
 loop-less : tie.Need-loop-less Inv-loop μ-loop
 loop-less c = search needs
 
--- src/lib.rt:47:5
 loop-again : tie.Need-loop-again Inv-loop μ-loop
 loop-again c =
     let a = c .before .before .before .before .before .before .args in
@@ -64,11 +52,9 @@ loop-again c =
     let l = c .before .before .loop in
     (omega arith, refl, mapped-more _ _ (l .row) (l .j) _ (omega arith) (l .inv .2) (list-of (a .file .now) (a .from) (l .j) _ (c .entry .ensures)))
 
--- src/lib.rt:41:1
 same-length : tie.Need-same-length Inv-loop μ-loop
 same-length c = search needs
 
--- src/lib.rt:41:1
 returns : tie.Need-returns Inv-loop μ-loop
 returns c = let l = c .before .loop in mapped-end _ _ _ (l .j) _ (omega arith) (omega arith) (l .inv .2)
 

@@ -1,3 +1,4 @@
+-- `file_filling::fill_rows` meets its contract. Assumes nothing.
 use borrow.Author.Needs.{needs}
 use native.Mathlib.Omega.{arith}
 use mathlib.Core.Path.{_≡_, refl, sym, ap, _∙_}
@@ -9,9 +10,6 @@ use Rattle.counting.proofs.Parts.{part-length}
 use Rattle.file_filling.proofs.Filled.{Filling, sizes, filling-begin, filling-room, filling-next, filling-done}
 use Rattle.file_filling.proofs.fill_rows.Statement.{statement}
 use Rattle.file_filling.proofs.fill_rows.Tie as tie
-use Rattle.file_filling.proofs.fill_rows.Reads as reads
-use Rattle.file_filling.proofs.fill_rows.Lts as lts
-use Rattle.file_filling.proofs.fill_row.Reads as fill-row-reads
 
 abbrev Inv-loop : tie.InvT-loop
 Inv-loop file n m rows₀ from₀ s₀ rows from s = (s ≤ n) × Filling file rows₀ rows s from
@@ -19,28 +17,24 @@ Inv-loop file n m rows₀ from₀ s₀ rows from s = (s ≤ n) × Filling file r
 abbrev μ-loop : tie.MeasureT-loop
 μ-loop file n m rows₀ from₀ s₀ rows from s = n - s
 
--- src/lib.rt:57:24
 mul-from : tie.Need-mul-from Inv-loop μ-loop
 mul-from c =
     let a = c .before .before .args in
     let p = c .before .before .pre in
     omega (arith, p .2, sizes (a .file .now) (p .0) .1)
 
--- src/lib.rt:57:20
 add-from : tie.Need-add-from Inv-loop μ-loop
 add-from c =
     let a = c .before .before .args in
     let p = c .before .before .pre in
     omega (arith, p .2, sizes (a .file .now) (p .0) .1)
 
--- src/lib.rt:58:5
 loop-holds : tie.Need-loop-holds Inv-loop μ-loop
 loop-holds c =
     let a = c .before .before .args in
     let p = c .before .before .pre in
     (omega arith, filling-begin (a .file .now) (p .0) (a .m) (p .2) _)
 
--- src/lib.rt:59:19
 mul-low : tie.Need-mul-low Inv-loop μ-loop
 mul-low c =
     let a = c .before .before .before .before .args in
@@ -49,7 +43,6 @@ mul-low c =
     let fits = filling-room (a .file .now) (p .0) (a .n) (a .m) (p .1) (p .2) _ _ (l .s) (l .from) (omega arith) (l .inv .1) in
     omega (arith, fits .1)
 
--- src/lib.rt:60:20
 add-high : tie.Need-add-high Inv-loop μ-loop
 add-high c =
     let a = c .before .before .before .before .args in
@@ -58,15 +51,12 @@ add-high c =
     let fits = filling-room (a .file .now) (p .0) (a .n) (a .m) (p .1) (p .2) _ _ (l .s) (l .from) (omega arith) (l .inv .1) in
     omega (arith, fits .1)
 
--- src/lib.rt:61:30
 sub-fill-row : tie.Need-sub-fill-row Inv-loop μ-loop
 sub-fill-row c = search needs
 
--- src/lib.rt:61:30
 part-fill-row-start : tie.Need-part-fill-row-start Inv-loop μ-loop
 part-fill-row-start c = search needs
 
--- src/lib.rt:61:30
 part-fill-row-end : tie.Need-part-fill-row-end Inv-loop μ-loop
 part-fill-row-end c =
     let a = c .before .before .before .before .args in
@@ -75,7 +65,6 @@ part-fill-row-end c =
     let fits = filling-room (a .file .now) (p .0) (a .n) (a .m) (p .1) (p .2) _ _ (l .s) (l .from) (omega arith) (l .inv .1) in
     omega (arith, fits .1, l .inv .1 .filled .size, p .3)
 
--- src/lib.rt:61:9
 fill-row-requires : tie.Need-fill-row-requires Inv-loop μ-loop
 fill-row-requires c κs =
     let a = c .before .before .before .before .before .args in
@@ -84,7 +73,6 @@ fill-row-requires c κs =
     let fits = filling-room (a .file .now) (p .0) (a .n) (a .m) (p .1) (p .2) _ _ (l .s) (l .from) (omega arith) (l .inv .1) in
     omega (arith, fits .0)
 
--- src/lib.rt:62:16
 add-from-2 : tie.Need-add-from-2 Inv-loop μ-loop
 add-from-2 c =
     let a = c .before .before .before .before .before .before .before .before .args in
@@ -93,7 +81,6 @@ add-from-2 c =
     let fits = filling-room (a .file .now) (p .0) (a .n) (a .m) (p .1) (p .2) _ _ (l .s) (l .from) (omega arith) (l .inv .1) in
     omega (arith, fits .0)
 
--- src/lib.rt:62:33
 add-from-3 : tie.Need-add-from-3 Inv-loop μ-loop
 add-from-3 c =
     let a = c .before .before .before .before .before .before .before .before .args in
@@ -102,7 +89,6 @@ add-from-3 c =
     let fits = filling-room (a .file .now) (p .0) (a .n) (a .m) (p .1) (p .2) _ _ (l .s) (l .from) (omega arith) (l .inv .1) in
     omega (arith, fits .0)
 
--- src/lib.rt:62:28
 shared-slice-read-from : tie.Need-shared-slice-read-from Inv-loop μ-loop
 shared-slice-read-from c =
     let a = c .before .before .before .before .before .before .before .before .before .args in
@@ -111,11 +97,9 @@ shared-slice-read-from c =
     let fits = filling-room (a .file .now) (p .0) (a .n) (a .m) (p .1) (p .2) _ _ (l .s) (l .from) (omega arith) (l .inv .1) in
     omega (arith, fits .0)
 
--- src/lib.rt:62:28
 cast-from : tie.Need-cast-from Inv-loop μ-loop
 cast-from c = omega (arith, c .shared-slice-known2 .given (c .before .before .before .before .before .before .loop .from + 4))
 
--- src/lib.rt:62:16
 add-from-4 : tie.Need-add-from-4 Inv-loop μ-loop
 add-from-4 c =
     let a = c .before .before .before .before .before .before .before .before .before .args in
@@ -124,15 +108,12 @@ add-from-4 c =
     let fits = filling-room (a .file .now) (p .0) (a .n) (a .m) (p .1) (p .2) _ _ (l .s) (l .from) (omega arith) (l .inv .1) in
     omega (arith, fits .0)
 
--- src/lib.rt:58:9
 add-s : tie.Need-add-s Inv-loop μ-loop
 add-s c = search needs
 
--- src/lib.rt:58:5
 loop-less : tie.Need-loop-less Inv-loop μ-loop
 loop-less c = search needs
 
--- src/lib.rt:58:5
 loop-again : tie.Need-loop-again Inv-loop μ-loop
 loop-again c =
     let a = c .before .before .before .before .before .before .before .before .before .args in
@@ -143,11 +124,9 @@ loop-again c =
     let size = part-length (l .s * a .m) (l .s * a .m + a .m) (l .rows) (omega (arith, fits .1, l .inv .1 .filled .size, p .3)) in
     (omega arith, filling-next (a .file .now) (p .0) (a .n) (a .m) (p .1) (p .2) _ (l .rows) ys (l .s) (l .from) (omega arith) (omega (arith, l .inv .1 .filled .size, p .3)) (omega (arith, c .before .before .before .fill-row .kept .1 .1 .0, size)) (λ j k. c .before .before .before .fill-row .ensures .done j (omega (arith, size))) (l .inv .1))
 
--- src/lib.rt:53:1
 same-length : tie.Need-same-length Inv-loop μ-loop
 same-length c = let l = c .before .loop in omega (arith, l .inv .1 .filled .size)
 
--- src/lib.rt:53:1
 returns : tie.Need-returns Inv-loop μ-loop
 returns c =
     let a = c .before .before .before .before .args in

@@ -1,3 +1,4 @@
+-- `file_filling::fill_scores` meets its contract. Assumes nothing.
 use borrow.Author.Needs.{needs}
 use native.Mathlib.Omega.{arith}
 use mathlib.Core.Path.{_≡_, refl, sym, ap, _∙_}
@@ -9,9 +10,6 @@ use Rattle.counting.proofs.Filling.{mapped-none, mapped-more, mapped-end}
 use Rattle.survey_file.specs.Decode.{wordAt}
 use Rattle.file_filling.proofs.fill_scores.Statement.{statement}
 use Rattle.file_filling.proofs.fill_scores.Tie as tie
-use Rattle.file_filling.proofs.fill_scores.Reads as reads
-use Rattle.file_filling.proofs.fill_scores.Lts as lts
-use Rattle.file_reader.proofs.fields.word_at.Reads as word-at-reads
 
 abbrev Inv-loop : tie.InvT-loop
 Inv-loop file m scores₀ i₀ scores i = (i ≤ m) × Mapped (λ j x. wordAt file (9 + 2 * j)) scores₀ scores i
@@ -19,51 +17,39 @@ Inv-loop file m scores₀ i₀ scores i = (i ≤ m) × Mapped (λ j x. wordAt fi
 abbrev μ-loop : tie.MeasureT-loop
 μ-loop file m scores₀ i₀ scores i = m - i
 
--- src/lib.rt:24:5
 loop-holds : tie.Need-loop-holds Inv-loop μ-loop
 loop-holds c = (omega arith, mapped-none _ _)
 
--- src/lib.rt:25:39
 mul-word-at : tie.Need-mul-word-at Inv-loop μ-loop
 mul-word-at c = search needs
 
--- src/lib.rt:25:35
 add-word-at : tie.Need-add-word-at Inv-loop μ-loop
 add-word-at c = search needs
 
--- src/lib.rt:25:21
 word-at-requires : tie.Need-word-at-requires Inv-loop μ-loop
 word-at-requires c κs = omega (arith, c .before .before .before .before .pre .0)
 
--- src/lib.rt:25:21
 cast-scores : tie.Need-cast-scores Inv-loop μ-loop
 cast-scores c = omega (arith, c .word-at .ensures .1)
 
--- src/lib.rt:25:9
 mul-scores : tie.Need-mul-scores Inv-loop μ-loop
 mul-scores c = let l = c .before .before .loop in omega (arith, l .inv .1 .size, c .before .before .before .before .before .pre .1)
 
--- src/lib.rt:25:9
 slice-write-scores : tie.Need-slice-write-scores Inv-loop μ-loop
 slice-write-scores c = let l = c .before .before .loop in omega (arith, l .inv .1 .size, c .before .before .before .before .before .pre .1)
 
--- src/lib.rt:24:9
 add-i : tie.Need-add-i Inv-loop μ-loop
 add-i c = search needs
 
--- src/lib.rt:24:5
 loop-less : tie.Need-loop-less Inv-loop μ-loop
 loop-less c = search needs
 
--- src/lib.rt:24:5
 loop-again : tie.Need-loop-again Inv-loop μ-loop
 loop-again c = let l = c .before .before .loop in (omega arith, mapped-more _ _ (l .scores) (l .i) _ (omega (arith, c .before .before .before .before .before .pre .1)) (l .inv .1) (c .word-at .ensures .0))
 
--- src/lib.rt:20:1
 same-length : tie.Need-same-length Inv-loop μ-loop
 same-length c = let l = c .before .loop in omega (arith, l .inv .1 .size)
 
--- src/lib.rt:20:1
 returns : tie.Need-returns Inv-loop μ-loop
 returns c = let l = c .before .loop in mapped-end _ _ _ (l .i) _ (omega arith) (omega arith) (l .inv .1)
 

@@ -1,15 +1,12 @@
+-- `file_refusals::kind_refusal` meets its contract. Assumes nothing.
 use borrow.Author.Needs.{needs}
 use Rattle.counting.proofs.Refusals.{chain}
 use Rattle.file_refusals.proofs.kind_refusal.Statement.{statement}
 use Rattle.file_refusals.proofs.kind_refusal.Tie as tie
-use Rattle.file_refusals.proofs.kind_refusal.Reads as reads
-use Rattle.file_refusals.proofs.kind_refusal.Lts as lts
 
--- src/lib.rt:17:9
 returns : tie.Need-returns
 returns c = search chain
 
--- src/lib.rt:13:1
 returns-2 : tie.Need-returns-2
 returns-2 c = search chain
 

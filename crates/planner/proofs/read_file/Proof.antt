@@ -1,3 +1,4 @@
+-- `planner::read_file` meets its contract. Assumes nothing.
 use borrow.Author.Needs.{needs}
 use mathlib.Core.Path.{refl, sym, _∙_}
 use native.Mathlib.Omega.{arith}
@@ -5,72 +6,52 @@ use Rattle.planner.proofs.Laws.{kept-refused, new-accepted}
 use Rattle.planner.proofs.Files.{read-parts, read-room, read-refused, read-accepted, filled}
 use Rattle.planner.proofs.read_file.Statement.{statement}
 use Rattle.planner.proofs.read_file.Tie as tie
-use Rattle.planner.proofs.read_file.Reads as reads
-use Rattle.planner.proofs.read_file.Lts as lts
-use Rattle.file_filling.proofs.fill.Reads as fill-reads
-use Rattle.file_reader.proofs.fields.word_at.Reads as word-at-reads
-use Rattle.file_refusals.proofs.read_refusal.Reads as read-refusal-reads
 
--- src/lib.rt:206:9
 read-refusal-requires : tie.Need-read-refusal-requires
 read-refusal-requires c κs = search needs
 
--- src/lib.rt:208:9
 same-length : tie.Need-same-length
 same-length c = search needs
 
--- src/lib.rt:208:9
 same-length-2 : tie.Need-same-length-2
 same-length-2 c = search needs
 
--- src/lib.rt:208:9
 returns : tie.Need-returns
 returns c =
     let e = c .before .read-refusal .ensures in
     let h = c .if1 .taken in
     (read-refused _ _ _ e h, (kept-refused _ _ _ _ e h, (kept-refused _ _ _ _ e h, λ z. absurd (h (e ∙ z)))))
 
--- src/lib.rt:210:9
 word-at-requires : tie.Need-word-at-requires
 word-at-requires c κs = let a = c .before .before .before .before .before .before .before .args in omega (arith, read-room (a .file .now) (a .rows .now) (a .scores .now) (sym (c .before .read-refusal .ensures) ∙ c .if1 .left))
 
--- src/lib.rt:211:13
 shared-slice-read-m : tie.Need-shared-slice-read-m
 shared-slice-read-m c = let a = c .before .before .before .before .before .before .before .before .before .args in omega (arith, read-room (a .file .now) (a .rows .now) (a .scores .now) (sym (c .before .before .before .read-refusal .ensures) ∙ c .before .before .if1 .left))
 
--- src/lib.rt:211:13
 cast-m : tie.Need-cast-m
 cast-m c = omega (arith, c .shared-slice-known2 .given 4)
 
--- src/lib.rt:212:5
 fill-requires : tie.Need-fill-requires
 fill-requires c κs = let a = c .before .before .before .before .before .before .before .before .before .before .before .args in let q = read-parts (a .file .now) (a .rows .now) (a .scores .now) (sym (c .before .before .before .before .before .read-refusal .ensures) ∙ c .before .before .before .before .if1 .left) in (q .2, c .before .before .before .word-at .ensures .0, refl, q .0, q .1)
 
--- src/lib.rt:216:12
 shared-slice-read-t13 : tie.Need-shared-slice-read-t13
 shared-slice-read-t13 c = let a = c .before .before .before .before .before .before .before .before .before .before .before .before .before .before .before .before .before .args in omega (arith, read-room (a .file .now) (a .rows .now) (a .scores .now) (sym (c .before .before .before .before .before .before .before .before .before .before .before .read-refusal .ensures) ∙ c .before .before .before .before .before .before .before .before .before .before .if1 .left))
 
--- src/lib.rt:216:12
 cast-t20 : tie.Need-cast-t20
 cast-t20 c = omega (arith, c .shared-slice-known3 .given 5)
 
--- src/lib.rt:217:15
 shared-slice-read-t22 : tie.Need-shared-slice-read-t22
 shared-slice-read-t22 c = let a = c .before .before .before .before .before .before .before .before .before .before .before .before .before .before .before .before .before .before .args in omega (arith, read-room (a .file .now) (a .rows .now) (a .scores .now) (sym (c .before .before .before .before .before .before .before .before .before .before .before .before .read-refusal .ensures) ∙ c .before .before .before .before .before .before .before .before .before .before .before .if1 .left))
 
--- src/lib.rt:217:15
 cast-t23 : tie.Need-cast-t23
 cast-t23 c = omega (arith, c .shared-slice-known4 .given 6)
 
--- src/lib.rt:200:1
 same-length-3 : tie.Need-same-length-3
 same-length-3 c = search needs
 
--- src/lib.rt:200:1
 same-length-4 : tie.Need-same-length-4
 same-length-4 c = search needs
 
--- src/lib.rt:200:1
 returns-2 : tie.Need-returns-2
 returns-2 c =
     let a = c .before .before .before .before .before .before .before .before .before .before .before .before .before .before .before .before .before .before .args in

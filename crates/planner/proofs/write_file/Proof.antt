@@ -1,3 +1,4 @@
+-- `planner::write_file` meets its contract. Assumes nothing.
 use borrow.Author.Needs.{needs}
 use mathlib.Core.Path.{sym, _∙_}
 use mathlib.Core.Bool.{false≢true}
@@ -6,44 +7,31 @@ use Rattle.planner.proofs.Laws.{told-refused, kept-refused}
 use Rattle.planner.proofs.Files.{write-accepted, write-chosen, write-kind, write-room, write-short, write-given}
 use Rattle.planner.proofs.write_file.Statement.{statement}
 use Rattle.planner.proofs.write_file.Tie as tie
-use Rattle.planner.proofs.write_file.Reads as reads
-use Rattle.planner.proofs.write_file.Lts as lts
-use Rattle.file_refusals.proofs.write_refusal.Reads as write-refusal-reads
-use Rattle.file_writer.proofs.file_length.Reads as file-length-reads
-use Rattle.file_writer.proofs.write.Reads as write-reads
 
--- src/lib.rt:177:9
 write-refusal-requires : tie.Need-write-refusal-requires
 write-refusal-requires c κs = search needs
 
--- src/lib.rt:179:9
 same-length : tie.Need-same-length
 same-length c = search needs
 
--- src/lib.rt:179:9
 returns : tie.Need-returns
 returns c =
     let e = c .before .write-refusal .ensures in
     let h = c .if1 .taken in
     (told-refused _ _ _ e h, (kept-refused _ _ _ _ e h, λ y. absurd (false≢true y)))
 
--- src/lib.rt:181:9
 file-length-requires : tie.Need-file-length-requires
 file-length-requires c κs = let a = c .before .before .before .before .before .before .args in let ok = write-accepted (a .n) (a .m) (a .k) (a .kind) (a .scores .now) (a .rows .now) (a .file .now) (sym (c .before .write-refusal .ensures) ∙ c .if1 .left) in (ok .few-streets, ok .few-sites, ok .rows-fit)
 
--- src/lib.rt:182:5
 write-requires : tie.Need-write-requires
 write-requires c κs = let a = c .before .before .before .before .before .before .before .before .args in let e = (sym (c .before .before .before .write-refusal .ensures) ∙ c .before .before .if1 .left) in (write-accepted (a .n) (a .m) (a .k) (a .kind) (a .scores .now) (a .rows .now) (a .file .now) e, ((write-chosen (a .n) (a .m) (a .k) (a .kind) (a .scores .now) (a .rows .now) (a .file .now) e, write-kind (a .n) (a .m) (a .k) (a .kind) (a .scores .now) (a .rows .now) (a .file .now) e), write-room (a .n) (a .m) (a .k) (a .kind) (a .scores .now) (a .rows .now) (a .file .now) e))
 
--- src/lib.rt:183:19
 cast-t16 : tie.Need-cast-t16
 cast-t16 c = let a = c .before .before .before .before .before .before .before .before .before .before .before .args in omega (arith, c .before .before .before .before .file-length .ensures (a .k) (a .kind) (a .scores .now), write-short (a .n) (a .m) (a .k) (a .kind) (a .scores .now) (a .rows .now) (a .file .now) (sym (c .before .before .before .before .before .before .write-refusal .ensures) ∙ c .before .before .before .before .before .if1 .left))
 
--- src/lib.rt:164:1
 same-length-2 : tie.Need-same-length-2
 same-length-2 c = search needs
 
--- src/lib.rt:164:1
 returns-2 : tie.Need-returns-2
 returns-2 c = let a = c .before .before .before .before .before .before .before .before .before .before .before .args in write-given (a .n) (a .m) (a .k) (a .kind) (a .scores .now) (a .rows .now) (a .file .now) _ (c .before .before .before .before .before .before .write-refusal .ensures) (c .before .before .before .before .before .if1 .left) _ _ (c .before .before .before .before .file-length .ensures (a .k) (a .kind) (a .scores .now)) (c .before .before .write .ensures)
 
