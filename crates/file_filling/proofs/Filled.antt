@@ -2,24 +2,24 @@
 -- been filled with a list is the list laid over the buffer.
 -- Assumes nothing.
 use mathlib.Core.Path.{_≡_, refl, sym, ap, _∙_}
-use mathlib.Core.Logic.{by-cases, ⊎-elim}
-use mathlib.Core.List.{List, [], _∷_, _++_}
-use Prim.Native.Nat.{ℕ, zero, suc, _+_, _-_, _*_, _≤_, _<_}
+use mathlib.Core.Logic.{by-cases}
+use mathlib.Core.List.{List, _++_}
+use Prim.Native.Nat.{ℕ, suc, _+_, _-_, _*_, _≤_, _<_}
 use native.Mathlib.Nat.{mul-le-mul, zero-add}
 use native.Mathlib.Numerals.{add-one}
 use native.Mathlib.Decide.{decLt}
 use native.Mathlib.Omega.{arith}
 use lib.Dec.{lit<}
 use lib.ListN.{length, take, drop, replicate, length-take, length-append, length-drop, length-replicate, getD-replicate, List·getD-append}
-use lib.Seq.{getD-take, getD-drop, getD-append-add, length-take-le, drop-drop, ext-getD}
+use lib.Seq.{getD-take, getD-drop, getD-append-add, drop-drop, ext-getD}
 use Rattle.counting.specs.Lists.{at}
-use Rattle.counting.specs.Buffers.{Mapped, joined, laid}
+use Rattle.counting.specs.Buffers.{Mapped, laid}
 use Rattle.counting.proofs.Sums.{at-past, listOf-length, listOf-at}
 use Rattle.counting.proofs.Filling.{mapped-none, mapped-end}
 use Rattle.counting.proofs.Refusals.{within}
 use Rattle.survey.specs.Rows.{rowOf}
 use Rattle.counting.proofs.Tables.{row-within}
-use Rattle.counting.proofs.Parts.{part, put, part-length, put-length, put-before, put-in, put-behind}
+use Rattle.counting.proofs.Parts.{put, put-length, put-before, put-in, put-behind}
 use Rattle.survey_file.specs.Decode.{wordAt, listIn, rowFrom, past, scoresIn, scoresPart, streetsIn, sitesIn, streetsPart, rowsIn, fileRefusal}
 use Rattle.survey_file.proofs.Accepting.{FileRead, file-says}
 use Rattle.survey_file.proofs.Fronts.{list-size}

@@ -1,7 +1,7 @@
 // The second pass over a survey file, which has been checked: it fills the buffers and can't fail.
 use file_reader::fields;
 ghost use mathlib.Core.Path.{_≡_};
-ghost use Prim.Native.Nat.{ℕ, _+_, _*_, _≤_, _<_};
+ghost use Prim.Native.Nat.{_+_, _*_, _≤_};
 ghost use lib.ListN.{length, take, drop};
 ghost use Rattle.counting.specs.Lists.{at};
 ghost use Rattle.counting.specs.Buffers.{Mapped, laid};

@@ -1,12 +1,9 @@
 // What the calls on files turn down: the number that its definition gives, and 0 where the call is accepted.
 use survey::check;
 ghost use mathlib.Core.Path.{_≡_};
-ghost use Prim.Native.Nat.{_≤_, _*_};
 ghost use lib.Dec.{ltb};
-ghost use lib.ListN.{length};
 ghost use Rattle.counting.specs.Words.{_when_};
 ghost use Rattle.survey.specs.Refusals.{kindRefusal};
-ghost use Rattle.survey_file.specs.Encode.{encode};
 ghost use Rattle.refusals.specs.Refusals.{writeRefusal, readRefusal};
 
 // 4: a kind that is neither free nor balanced.

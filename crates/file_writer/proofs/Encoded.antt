@@ -2,18 +2,16 @@
 -- Assumes nothing.
 use mathlib.Core.Path.{_≡_, refl, ap, _∙_}
 use mathlib.Core.List.{List, [], _∷_, _++_}
-use Prim.Native.Nat.{ℕ, zero, suc, _+_, _*_, _≤_}
+use Prim.Native.Nat.{ℕ, _+_, _*_, _≤_}
 use native.Mathlib.Nat.{le-antisymm}
 use native.Mathlib.Numerals.{add-one}
 use native.Mathlib.Omega.{arith}
-use lib.Dec.{eqb}
 use lib.ListN.{length, drop, length-append, length-take}
 use lib.Seq.{ext-getD}
 use Rattle.counting.specs.Lists.{at}
 use Rattle.counting.specs.Buffers.{joined, listOf, laid}
-use Rattle.counting.proofs.Membership.{cond-at}
 use Rattle.counting.proofs.Sums.{listOf-length, listOf-at}
-use Rattle.survey.specs.Rows.{rowOf, rankedPart, listOfStreet}
+use Rattle.survey.specs.Rows.{rowOf, listOfStreet}
 use Rattle.survey_file.specs.Encode.{word, townBytes, scoresBytes, listBytes, streetBytes, encode, endMark}
 use Rattle.file_writer.specs.Written.{Written}
 use Rattle.survey.proofs.Lists.{ranked-length}

@@ -1,11 +1,6 @@
 -- `file_filling::entry` meets its contract. Assumes nothing.
 use borrow.Author.Needs.{needs}
 use native.Mathlib.Omega.{arith}
-use mathlib.Core.Path.{_≡_, refl, sym, ap, _∙_}
-use lib.ListN.{length, take, drop}
-use Prim.Native.Nat.{ℕ, _+_, _*_, _-_, _≤_, _<_}
-use Rattle.counting.specs.Lists.{at}
-use Rattle.counting.specs.Buffers.{Mapped}
 use Rattle.file_filling.proofs.Filled.{entry-none, entry-some}
 use Rattle.file_filling.proofs.entry.Statement.{statement}
 use Rattle.file_filling.proofs.entry.Tie as tie

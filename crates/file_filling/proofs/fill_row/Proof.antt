@@ -1,9 +1,9 @@
 -- `file_filling::fill_row` meets its contract. Assumes nothing.
 use borrow.Author.Needs.{needs}
 use native.Mathlib.Omega.{arith}
-use mathlib.Core.Path.{_≡_, refl, sym, ap, _∙_}
-use lib.ListN.{length, take, drop}
-use Prim.Native.Nat.{ℕ, _+_, _*_, _-_, _≤_, _<_}
+use mathlib.Core.Path.{_≡_, refl}
+use lib.ListN.{length, drop}
+use Prim.Native.Nat.{_+_, _-_, _≤_}
 use Rattle.counting.specs.Lists.{at}
 use Rattle.counting.specs.Buffers.{Mapped}
 use Rattle.counting.proofs.Filling.{mapped-none, mapped-more, mapped-end}

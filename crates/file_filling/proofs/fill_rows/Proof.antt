@@ -1,11 +1,7 @@
 -- `file_filling::fill_rows` meets its contract. Assumes nothing.
 use borrow.Author.Needs.{needs}
 use native.Mathlib.Omega.{arith}
-use mathlib.Core.Path.{_≡_, refl, sym, ap, _∙_}
-use lib.ListN.{length, take, drop}
-use Prim.Native.Nat.{ℕ, _+_, _*_, _-_, _≤_, _<_}
-use Rattle.counting.specs.Lists.{at}
-use Rattle.counting.specs.Buffers.{Mapped}
+use Prim.Native.Nat.{_+_, _*_, _-_, _≤_}
 use Rattle.counting.proofs.Parts.{part-length}
 use Rattle.file_filling.proofs.Filled.{Filling, sizes, filling-begin, filling-room, filling-next, filling-done}
 use Rattle.file_filling.proofs.fill_rows.Statement.{statement}

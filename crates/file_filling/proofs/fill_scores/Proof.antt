@@ -1,10 +1,7 @@
 -- `file_filling::fill_scores` meets its contract. Assumes nothing.
 use borrow.Author.Needs.{needs}
 use native.Mathlib.Omega.{arith}
-use mathlib.Core.Path.{_≡_, refl, sym, ap, _∙_}
-use lib.ListN.{length, take, drop}
-use Prim.Native.Nat.{ℕ, _+_, _*_, _-_, _≤_, _<_}
-use Rattle.counting.specs.Lists.{at}
+use Prim.Native.Nat.{_+_, _*_, _-_, _≤_}
 use Rattle.counting.specs.Buffers.{Mapped}
 use Rattle.counting.proofs.Filling.{mapped-none, mapped-more, mapped-end}
 use Rattle.survey_file.specs.Decode.{wordAt}

@@ -1,5 +1,4 @@
 -- `file_refusals::kind_refusal` meets its contract. Assumes nothing.
-use borrow.Author.Needs.{needs}
 use Rattle.counting.proofs.Refusals.{chain}
 use Rattle.file_refusals.proofs.kind_refusal.Statement.{statement}
 use Rattle.file_refusals.proofs.kind_refusal.Tie as tie

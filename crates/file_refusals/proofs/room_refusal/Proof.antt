@@ -1,5 +1,4 @@
 -- `file_refusals::room_refusal` meets its contract. Assumes nothing.
-use borrow.Author.Needs.{needs}
 use Rattle.counting.proofs.Refusals.{chain}
 use Rattle.file_refusals.proofs.room_refusal.Statement.{statement}
 use Rattle.file_refusals.proofs.room_refusal.Tie as tie

@@ -2,7 +2,6 @@
 use borrow.Author.Needs.{needs}
 use mathlib.Core.Path.{_≡_, refl}
 use Prim.Native.Nat.{_≤_, _-_}
-use native.Mathlib.Omega.{arith}
 use lib.ListN.{length}
 use Rattle.longest_file.proofs.fill_scores.Statement.{statement}
 use Rattle.longest_file.proofs.fill_scores.Tie as tie
