@@ -62,9 +62,6 @@ pub given : (v : ℕ → ℕ → ℕ → ℕ) (x w j n : ℕ) (b c F : List ℕ)
 given v x w j n b c F t e f g total division = (rw (e, f, g) at total, rw (e, f, g) at division)
 
 -- a buffer of n sites is for n streets
-pub table-of : (n m k : ℕ) (values : List ℕ) → k ≡ n → Table n m values → Table k m values
-table-of n m k values e h = rw e h
-
 pub shareable-of : (n m k : ℕ) (list : List ℕ) → k ≡ n → Shareable n m list → Shareable k m list
 shareable-of n m k list e h = rw e h
 

@@ -1,22 +1,19 @@
--- The theory of the balanced rounds said of a survey: the rounds' sites, their division and its shares, and that the best division in these
--- shares totals no less than the floor.
+-- The floor's theorem said of a survey: the best division in the shares of the rounds' sites totals no less than the floor.
 -- Assumes nothing.
 use mathlib.Core.Path.{_≡_}
 use mathlib.Core.List.{List}
 use Prim.Native.Nat.{ℕ, _*_, _/_, _≤_, _<_}
 use native.Mathlib.Omega.{arith}
-use lib.ListN.{length, drop, length-take}
-use Rattle.counting.specs.Sites.{Plan}
+use lib.ListN.{drop, length-take}
 use Rattle.counting.proofs.Membership.{apart}
 use Rattle.survey.specs.Rows.{rowOf, rankedPart, listOfStreet, placeIn, placeOf, scoreAt, value, shortest}
 use Rattle.survey.specs.Accepted.{Accepted}
 use Rattle.survey.proofs.Lists.{place-most, place-among, score-later, ranked-length, ranked-within, ranked-apart, shortest-least}
 use Rattle.survey.proofs.Places.{score-none, valued-zero}
-use Rattle.division.specs.Shares.{InShares, divisionTotal, sharesOf}
+use Rattle.division.specs.Shares.{divisionTotal, sharesOf}
 use Rattle.division.specs.Divide.{divide}
 use Rattle.balanced_plan.specs.Rounds.{State, rounds, placeKey, evenShare}
 use Rattle.balanced_plan.specs.Floor.{floor}
-use Rattle.balanced_plan.proofs.Dealt.{rounds-plan, rounds-length, rounds-in}
 use Rattle.balanced_plan.proofs.Evenly.{even-sum, even-crowd}
 use Rattle.balanced_plan.proofs.Floored.{Ranking, best-floor}
 use Rattle.balanced_plan.proofs.Keys.{place-falls}
@@ -35,19 +32,7 @@ module _ (n m k : ℕ) (scores rows : List ℕ) where
   abbrev planned : State
   planned = rounds (value m scores rows) key n m (evenShare n k) k
 
-  -- the rounds' division is one of all n streets
-  pub rounds-size : length (planned .division) ≡ n
-  rounds-size = rounds-length (value m scores rows) key n m (evenShare n k) k
-
   module _ (ok : Accepted n m scores rows) (few : k ≤ m) (whole : k * (n / k) ≡ n) where
-    -- the rounds choose k different sites of 1 to m
-    pub rounds-sites : Plan m k (planned .chosen)
-    rounds-sites = rounds-plan (value m scores rows) key n m (evenShare n k) k few
-
-    -- their division is in the shares of these sites
-    pub rounds-shared : InShares (planned .division) (sharesOf (evenShare n k) (planned .chosen) m)
-    rounds-shared = rounds-in (value m scores rows) key n m (evenShare n k) k few (even-sum n m k whole)
-
     -- the key puts first a street that scores no less
     key-falls : (a s u : ℕ) → s < n → u < n → key a s ≤ key a u → value m scores rows u a ≤ value m scores rows s a
     key-falls a s u l h =

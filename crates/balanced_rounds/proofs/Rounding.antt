@@ -25,7 +25,6 @@ use Rattle.counting.proofs.Tables.{row-within}
 use Rattle.counting.proofs.Parts.{back-is}
 use Rattle.survey.specs.Rows.{rowOf}
 use Rattle.survey.proofs.Laws.{row-part}
-use Rattle.values.specs.Table.{Table}
 use Rattle.free_rounds.specs.Held.{unflagged}
 use Rattle.balanced_plan.specs.Rounds.{free, lot, worth, give, choice, taken, rounds}
 use Rattle.balanced_plan.specs.Rounds as plan
@@ -176,10 +175,7 @@ lines-small n m few few-sites = mul-le-mul {n₁ = m + 1} {m₁ = n} {n₂ = 65}
 pub small-of : (list new : List ℕ) (bound : ℕ) → list ≡ new → ((a : ℕ) → at new a ≤ bound) → (a : ℕ) → at list a ≤ bound
 small-of list new bound e h = rw e h
 
--- a table, lines and orders of n streets, where n is the length of a list
-pub table-of : (i n m : ℕ) (values : List ℕ) → i ≡ n → Table n m values → Table i m values
-table-of i n m values e h = rw e h
-
+-- lines and orders of n streets, where n is the length of a list
 pub lines-of : (i n m : ℕ) (orders : List ℕ) → i ≡ n → Lines n m orders → Lines i m orders
 lines-of i n m orders e h = rw e h
 

@@ -40,10 +40,9 @@ total-bound values division w small = divisionTotal-bound (cell values w) 99000 
 module _ (values shares division : List ℕ) (w k : ℕ) (sites : (s : ℕ) → s < length division → at division s < w) (low prices vias : List ℕ)
     (h : Searched values shares division w k low prices vias) where
   -- from a site that the last layer raised one can walk back
-  pub walkable : (l b : ℕ) → l + 1 ≡ k → k ≤ w → w ≤ 65 → length division ≤ 400 → length vias ≡ w * w → (streets places : List ℕ) → length streets ≡ w
+  pub walkable : (l b : ℕ) → l + 1 ≡ k → k ≤ w → w ≤ 65 → length vias ≡ w * w → (streets places : List ℕ) → length streets ≡ w
       → length places ≡ w + 1 → b < w → Raised (cell vias w l) (length division) w w b → Walkable vias division w k b streets places
-  walkable l b e m few-sites few fits streets places streets-fit places-fit o top = record {
-    some = omega arith;
+  walkable l b e m few-sites fits streets places streets-fit places-fit o top = record {
     start = o;
     raised = λ p q. let same : l ≡ p = omega arith in rw same at (top .some o);
     back = λ j x m o v. raised-by values shares division w k sites low prices vias h j x m o v;
@@ -51,9 +50,7 @@ module _ (values shares division : List ℕ) (w k : ℕ) (sites : (s : ℕ) → 
     layers-fit = omega (arith, mul-le-mul-right {m = k} {n = w} w m);
     streets-fit = omega arith;
     sites-fit = omega arith;
-    few = few;
     few-sites = few-sites;
-    few-layers = omega arith;
   }
 
   module _ (ts xs : ℕ → ℕ) (from q : ℕ) (ring : Walked (cell vias w) division w k ts xs from q) where

@@ -2,7 +2,7 @@
 -- Assumes nothing.
 use mathlib.Core.Path.{_≡_}
 use mathlib.Core.List.{List, [], _∷_}
-use Prim.Native.Nat.{ℕ, zero, suc, _+_, _≤_, _<_}
+use Prim.Native.Nat.{ℕ, zero, suc, _+_, _<_}
 use native.Mathlib.Nat.{le-of-suc-le-suc}
 use native.Mathlib.Omega.{arith}
 use lib.Dec.{eqb}
@@ -27,10 +27,6 @@ count-set D s b x l = simp count-total (divisionTotal-set (λ s a. one (eqb a x)
 abbrev pub Over : List ℕ → List ℕ → ℕ → ℕ → Type 0
 Over D E a y = (z : ℕ) → count E z + one (eqb a z) ≡ count D z + one (eqb y z)
 
--- a first street moves to b
-pub over-start : (D : List ℕ) (s b : ℕ) → s < length D → Over D (set D s b) (at D s) b
-over-start D s b l z = count-set D s b z l
-
 -- no street is too many where a is y: E is in the shares of D
 pub over-done : (D E : List ℕ) (a : ℕ) → Over D E a a → (c : List ℕ) → InShares D c → InShares E c
 over-done D E a o c i z = omega (arith, o z, i z)
@@ -40,16 +36,7 @@ module _ (D E : List ℕ) (a y t x : ℕ) (l : t < length E) where
   pub over-on : Over D E a y → at E t ≡ y → Over D (set E t x) a x
   over-on o e z = omega (arith, o z, rw e at (count-set E t x z l))
 
-  -- a street of the site x comes to a
-  pub over-back : Over D E a y → at E t ≡ x → Over D (set E t a) x y
-  over-back o e z = omega (arith, o z, rw e at (count-set E t a z l))
-
   -- a tight move keeps the total, after prices
   pub over-total : (v : ℕ → ℕ → ℕ) (d : ℕ → ℕ) → at E t ≡ y → d y + v t x ≡ d x + v t y → divisionTotal v E + d a ≡ divisionTotal v D + d y
       → divisionTotal v (set E t x) + d a ≡ divisionTotal v D + d x
   over-total v d e m h = omega (arith, rw e at (divisionTotal-set v E t x l))
-
-  -- a move that gains raises it
-  pub over-rise : (v : ℕ → ℕ → ℕ) (p q w : ℕ) → at E t ≡ x → p + v t x ≤ q + v t a → divisionTotal v D + w ≤ divisionTotal v E + p
-      → divisionTotal v D + w ≤ divisionTotal v (set E t a) + q
-  over-rise v p q w e m h = omega (arith, rw e at (divisionTotal-set v E t a l))

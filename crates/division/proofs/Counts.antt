@@ -30,12 +30,6 @@ dot (x ∷ c) d = x * d 1 + dot c (λ a. d (suc a))
 abbrev pub shareSum : List ℕ → ℕ
 shareSum c = dot c (λ a. 1)
 
--- a share is a number of the list with 0 for site 0 in front
-pub share-at : (c : List ℕ) (a : ℕ) → share c a ≡ at (0 ∷ c) a
-unfolding share
-share-at c zero = refl
-share-at c (suc a) = refl
-
 -- ---- one street less
 -- a number of a list less one is one less, and the others stay
 less-at : (c : List ℕ) (a x : ℕ) → 0 < at c a → at (set c a (pred (at c a))) x + one (eqb a x) ≡ at c x

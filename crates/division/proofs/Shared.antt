@@ -43,10 +43,6 @@ among-none q (b ∷ chosen) a h =
 among-out : (q : ℕ → ℕ) (chosen : List ℕ) (m : ℕ) → Sites m chosen → (a : ℕ) → ((0 < a) × (a ≤ m) → ⊥) → shareAmong q chosen a ≡ 0
 among-out q chosen m w a n = ⊎-elim (among-none q chosen a) (λ e. absurd (n (w a e))) (dichotomy (has a chosen))
 
--- a site that has a share is chosen
-pub among-has : (q : ℕ → ℕ) (chosen : List ℕ) (a : ℕ) → 0 < shareAmong q chosen a → has a chosen ≡ true
-among-has q chosen a l = ⊎-elim (λ o. absurd (omega (arith, among-none q chosen a o))) (λ y. y) (dichotomy (has a chosen))
-
 -- the i-th of different sites has the i-th share
 pub among-at : (q : ℕ → ℕ) (chosen : List ℕ) (i : ℕ) → distinct chosen ≡ true → i < length chosen → shareAmong q chosen (at chosen i) ≡ q i
 among-at q [] i d l = absurd (omega arith)

@@ -20,7 +20,6 @@ use Rattle.counting.proofs.Sums.{sumOf-same, at-past}
 use Rattle.free_plan.specs.Greedy.{best, total, totalWith, pick}
 use Rattle.free_plan.proofs.Totals.{best-append, best-le}
 use Rattle.free_rounds.specs.declared.State.{State}
-use Rattle.values.specs.Table.{Table}
 use Rattle.free_rounds.specs.Held.{Held, Scores, sitesOf, emptyState, unflagged}
 
 -- the empty state holds nothing
@@ -96,7 +95,3 @@ choice-is v n m state h low few =
 -- the sum of the bests is the total of the sites
 pub total-is : (v : ℕ → ℕ → ℕ) (n : ℕ) (state : State) → Held v n state → sumOf n (at (take n (state .bests))) ≡ total v n (sitesOf state)
 total-is v n state h = sumOf-same n _ _ (λ s l. getD-take n (state .bests) s 0 l ∙ h .bests s l)
-
--- the same table, with its streets counted another way
-pub table-same : (i n m : ℕ) (values : List ℕ) → i ≡ n → Table n m values → Table i m values
-table-same i n m values e t = rw e t

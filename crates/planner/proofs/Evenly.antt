@@ -16,8 +16,8 @@ use Rattle.balanced_plan.specs.Rounds.{placeKey}
 use Rattle.balanced_results.specs.Shareable.{Shareable}
 use Rattle.balanced_results.specs.Plans.{planSites, planDivision}
 use Rattle.balanced_results.proofs.Divided.{for-all}
-use Rattle.balanced_results.proofs.Played.{sites-shareable}
-use Rattle.balanced_results.proofs.Surveyed.{plan-floor, rounds-sites}
+use Rattle.balanced_results.proofs.Played.{sites-plan, sites-shareable}
+use Rattle.balanced_results.proofs.Surveyed.{plan-floor}
 use Rattle.refusals.specs.Refusals.{balancedDivisionRefusal, balancedPlanRefusal}
 use Rattle.refusals.proofs.Listed.{list-sites, list-apart, balanced-division-listed, balanced-division-even, balanced-plan-called, balanced-plan-even, balanced-plan-fits}
 use Rattle.planner.specs.Plans.{planTotal, sharesFor, balancedDivision, balancedSites, balancedTotal, streetPlace}
@@ -67,7 +67,7 @@ balanced-division-given n m scores rows sites division r e z given t total d =
 -- ---- the balanced plan
 module _ (n m k : ℕ) (scores rows : List ℕ) (ok : Accepted n m scores rows) (some : 1 ≤ k) (few : k ≤ m) (even : k * (n / k) ≡ n) where
   sites : Plan m k (balancedSites n m k scores rows)
-  sites = rounds-sites n m k scores rows ok few even
+  sites = sites-plan (value m scores rows) (placeKey (streetPlace m rows) m) n m k few even (balancedSites n m k scores rows) refl
 
   -- over as many sites as were to be chosen the share is that of the plan
   pub plan-division : balancedDivision n m scores rows (balancedSites n m k scores rows) ≡ planDivision (value m scores rows) n m k rows

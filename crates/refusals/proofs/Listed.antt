@@ -133,7 +133,3 @@ module _ (n m k : ℕ) (scores rows : List ℕ) (e : floorRefusal n m k scores r
   -- a floor has a sound survey and a number of sites of 1 to m
   pub floor-called : Called n m k scores rows
   floor-called = called n m k _ scores rows e
-
-  -- its sites have equal shares, which make up all streets
-  pub floor-even : k * (n / k) ≡ n
-  floor-even = even n k (own-accepted n m k _ scores rows e)

@@ -28,7 +28,6 @@ pub record Moves (n : ℕ) (streets sites : List ℕ) (from count : ℕ) : Type 
 -- what a walk back from the site b, raised by the layer before k, is lent: a site raised by a street was raised because its street's own
 -- site was raised one layer earlier
 pub record Walkable (vias division : List ℕ) (w k b : ℕ) (streets sites : List ℕ) : Type 0 where
-  pub some : 0 < k
   pub start : b < w
   pub raised : (p : ℕ) → p + 1 ≡ k → cell vias w p b < length division
   pub back : (l x : ℕ) → l + 1 < k → x < w → cell vias w (l + 1) x < length division
@@ -37,9 +36,7 @@ pub record Walkable (vias division : List ℕ) (w k b : ℕ) (streets sites : Li
   pub layers-fit : k * w ≤ length vias
   pub streets-fit : k ≤ length streets
   pub sites-fit : k < length sites
-  pub few : length division ≤ 400
   pub few-sites : w ≤ 65
-  pub few-layers : k ≤ 65
 
 -- the walk down to layer l, where it began at layer k
 pub record Linked (via : ℕ → ℕ → ℕ) (D : List ℕ) (w k l : ℕ) (ts xs : ℕ → ℕ) : Type 0 where

@@ -55,3 +55,7 @@ module _ (n m : ℕ) (scores rows : List ℕ) (ok : Accepted n m scores rows) wh
     -- and it holds the survey's values
     pub table-same : (s a : ℕ) → s < n → a ≤ m → valueIn (take (n * (m + 1)) (table ++ rest)) m s a ≡ value m scores rows s a
     table-same s a l u = ap (λ (t : List ℕ). valueIn t m s a) table-part ∙ h .right s a l u
+
+-- a table of n streets, where n is counted another way
+pub table-of : (n m k : ℕ) (values : List ℕ) → k ≡ n → Table n m values → Table k m values
+table-of n m k values e h = rw e h

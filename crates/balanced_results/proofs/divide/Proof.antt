@@ -1,12 +1,12 @@
 -- `balanced_results::divide` meets its contract. Assumes nothing.
 use borrow.Author.Needs.{needs}
-use Rattle.balanced_results.proofs.Divided.{table-of, shareable-of, as-surveyed}
+use Rattle.balanced_results.proofs.Divided.{shareable-of, as-surveyed}
 use Rattle.survey.specs.Rows.{value}
 use native.Mathlib.Omega.{arith}
 use mathlib.Core.Path.{sym}
 use Prim.Native.Nat.{_+_}
 use Rattle.counting.proofs.Parts.{front-length, front-blank}
-use Rattle.values.proofs.Tabled.{table-fits, table-blank, table-room, table-size, table-ready, table-same}
+use Rattle.values.proofs.Tabled.{table-of, table-fits, table-blank, table-room, table-size, table-ready, table-same}
 use Rattle.balanced_results.proofs.divide.Statement.{statement}
 use Rattle.balanced_results.proofs.divide.Tie as tie
 

@@ -80,7 +80,7 @@ walk-requires c κs =
     let p = c .before .before .before .before .before .before .before .before .before .before .before .before .before .before .before .before .before .before .before .before .before .before .before .before .before .before .before .before .before .before .before .before .before .before .before .before .before .before .before .before .before .before .before .before .before .pre in
     let s = c .before .before .before .before .before .before .before .before .before .before .before .before .before .before .before .before .before .before .search in
     let d = c .before .before .before .before .before .before .before .before .before .before .before .deepen in
-    walkable (a .values .now) (a .shares .now) (s .division) (length (a .shares .now)) (s .k + 1) (inside (a .values .now) (a .shares .now) (s .division) (s .inv .2 .town) (s .inv .2 .shared)) (d .last .1 .1 .1 .1 .0) (d .last .1 .1 .1 .1 .1 .0) (d .last .1 .1 .1 .1 .1 .1 .0) (d .ensures .0) (s .k) _ refl (omega (arith, s .inv .1)) (s .inv .2 .town .few-sites) (s .inv .2 .town .few) (omega (arith, d .kept .1 .1 .1 .1 .1 .1 .0, s .inv .2 .buffers .vias-fit)) (s .streets) (s .sites) (s .inv .2 .buffers .streets-fit) (s .inv .2 .buffers .sites-fit) (omega arith) (d .ensures .1)
+    walkable (a .values .now) (a .shares .now) (s .division) (length (a .shares .now)) (s .k + 1) (inside (a .values .now) (a .shares .now) (s .division) (s .inv .2 .town) (s .inv .2 .shared)) (d .last .1 .1 .1 .1 .0) (d .last .1 .1 .1 .1 .1 .0) (d .last .1 .1 .1 .1 .1 .1 .0) (d .ensures .0) (s .k) _ refl (omega (arith, s .inv .1)) (s .inv .2 .town .few-sites) (omega (arith, d .kept .1 .1 .1 .1 .1 .1 .0, s .inv .2 .buffers .vias-fit)) (s .streets) (s .sites) (s .inv .2 .buffers .streets-fit) (s .inv .2 .buffers .sites-fit) (omega arith) (d .ensures .1)
 
 turn-requires : tie.Need-turn-requires Inv-search μ-search Inv-improve μ-improve
 turn-requires c κs =

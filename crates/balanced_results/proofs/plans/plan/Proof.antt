@@ -6,8 +6,7 @@ use lib.ListN.{length}
 use Prim.Native.Nat.{_+_}
 use Rattle.counting.proofs.Parts.{front-length, front-blank}
 use Rattle.survey.specs.Rows.{value}
-use Rattle.values.proofs.Tabled.{table-fits, table-blank, table-room, table-size, table-ready, table-same}
-use Rattle.balanced_results.proofs.Divided.{table-of}
+use Rattle.values.proofs.Tabled.{table-of, table-fits, table-blank, table-room, table-size, table-ready, table-same}
 use Rattle.balanced_results.proofs.Played.{ranked, ranked-of, even-of, plan-surveyed}
 use Rattle.balanced_results.proofs.plans.plan.Statement.{statement}
 use Rattle.balanced_results.proofs.plans.plan.Tie as tie

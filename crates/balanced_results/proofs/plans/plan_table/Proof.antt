@@ -1,5 +1,6 @@
 -- `balanced_results::plans::plan_table` meets its contract. Assumes nothing.
 use borrow.Author.Needs.{needs}
+use Rattle.values.proofs.Tabled.{table-of}
 use native.Mathlib.Omega.{arith}
 use mathlib.Core.Path.{sym, _∙_}
 use lib.ListN.{length}
@@ -7,7 +8,6 @@ use lib.Seq.{length-take-le}
 use Rattle.survey.specs.Rows.{rowOf, placeOf}
 use Rattle.values.specs.Table.{valueIn}
 use Rattle.balanced_plan.specs.Rounds.{placeKey}
-use Rattle.balanced_results.proofs.Divided.{table-of}
 use Rattle.balanced_results.proofs.Played.{rounds-ready, state-sites, state-division, plan-given}
 use Rattle.balanced_results.proofs.plans.plan_table.Statement.{statement}
 use Rattle.balanced_results.proofs.plans.plan_table.Tie as tie

@@ -1,5 +1,6 @@
 -- `balanced_rounds::State::round` meets its contract. Assumes nothing.
 use borrow.Author.Needs.{needs}
+use Rattle.values.proofs.Tabled.{table-of}
 use native.Mathlib.Omega.{arith}
 use mathlib.Core.Path.{sym, ap, _∙_}
 use Prim.Native.Nat.{ℕ}
@@ -7,7 +8,7 @@ use Rattle.values.specs.Table.{valueIn}
 use lib.Seq.{length-take-le}
 use Rattle.balanced_plan.specs.Rounds.{taken}
 use Rattle.balanced_rounds.specs.Lines.{stateOf}
-use Rattle.balanced_rounds.proofs.Rounding.{table-of, lines-of, orders-of, choice-flagged}
+use Rattle.balanced_rounds.proofs.Rounding.{lines-of, orders-of, choice-flagged}
 use Rattle.balanced_rounds.proofs.State.round.Statement.{statement}
 use Rattle.balanced_rounds.proofs.State.round.Tie as tie
 
@@ -27,7 +28,7 @@ choose-requires : tie.Need-choose-requires
 choose-requires c κs =
     let a = c .before .before .before .before .before .before .args in
     let p = c .before .before .before .before .before .before .pre in
-    ((table-of _ (a .n) (a .m) _ (length-take-le (a .n) (a .self .division) (omega (arith, p .0 .0 .few-streets, p .1 .0 .division-size))) (p .0 .0), lines-of _ (a .n) (a .m) _ (length-take-le (a .n) (a .self .division) (omega (arith, p .0 .0 .few-streets, p .1 .0 .division-size))) (p .0 .1)), (p .1 .0 .marks .size, p .1 .2))
+    ((table-of (a .n) (a .m) _ _ (length-take-le (a .n) (a .self .division) (omega (arith, p .0 .0 .few-streets, p .1 .0 .division-size))) (p .0 .0), lines-of _ (a .n) (a .m) _ (length-take-le (a .n) (a .self .division) (omega (arith, p .0 .0 .few-streets, p .1 .0 .division-size))) (p .0 .1)), (p .1 .0 .marks .size, p .1 .2))
 
 cast-taking : tie.Need-cast-taking
 cast-taking c =

@@ -1,5 +1,6 @@
 -- `free_rounds::State::round` meets its contract. Assumes nothing.
 use borrow.Author.Needs.{needs}
+use Rattle.values.proofs.Tabled.{table-of}
 use mathlib.Core.Path.{sym, ap, _∙_}
 use mathlib.Core.List.{[], _∷_, _++_}
 use Prim.Native.Nat.{ℕ, _≤_}
@@ -8,7 +9,7 @@ use lib.Seq.{length-take-le}
 use Rattle.values.specs.Table.{valueIn}
 use Rattle.counting.proofs.Choice.{chosen-le}
 use Rattle.free_rounds.specs.Held.{sitesOf}
-use Rattle.free_rounds.proofs.Rounded.{table-same, bests-small, choice-is}
+use Rattle.free_rounds.proofs.Rounded.{bests-small, choice-is}
 use Rattle.free_rounds.proofs.State.round.Statement.{statement}
 use Rattle.free_rounds.proofs.State.round.Tie as tie
 
@@ -30,7 +31,7 @@ choose-requires c κs =
     let a = c .before .before .before .before .before .args in
     let p = c .before .before .before .before .before .pre in
     let whole = length-take-le (a .n) (a .self .bests) (omega (arith, p .0 .few-streets, p .1 .0 .bests-size)) in
-    (table-same _ (a .n) (a .m) _ whole (p .0), bests-small _ (a .n) (a .self) (p .1 .0) (λ s x. p .0 .small _), p .1 .0 .marks .size)
+    (table-of (a .n) (a .m) _ _ whole (p .0), bests-small _ (a .n) (a .self) (p .1 .0) (λ s x. p .0 .small _), p .1 .0 .marks .size)
 
 cast-taking : tie.Need-cast-taking
 cast-taking c =

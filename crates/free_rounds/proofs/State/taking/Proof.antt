@@ -1,10 +1,11 @@
 -- `free_rounds::State::taking` meets its contract. Assumes nothing.
 use borrow.Author.Needs.{needs}
+use Rattle.values.proofs.Tabled.{table-of}
 use mathlib.Core.Path.{refl, sym}
 use mathlib.Core.List.{_++_}
 use native.Mathlib.Omega.{arith}
 use lib.ListN.{drop}
-use Rattle.free_rounds.proofs.Rounded.{held-more, sites-more, table-same}
+use Rattle.free_rounds.proofs.Rounded.{held-more, sites-more}
 use Rattle.values.specs.Table.{valueIn}
 use lib.Seq.{length-take-le}
 use Rattle.free_rounds.proofs.State.taking.Statement.{statement}
@@ -33,7 +34,7 @@ raise-requires c κs =
     let a = c .before .before .before .args in
     let p = c .before .before .before .pre in
     let whole = length-take-le (a .n) (a .t1 .bests) (omega (arith, p .0 .few-streets, p .1 .0 .bests-size)) in
-    (table-same _ (a .n) (a .m) _ whole (p .0), p .1 .1 .0)
+    (table-of (a .n) (a .m) _ _ whole (p .0), p .1 .1 .0)
 
 returns : tie.Need-returns
 returns c =
