@@ -2,3 +2,4 @@ pub mod Tries
 pub mod Reading
 pub mod Walking
 pub mod Whole
+pub mod Carried

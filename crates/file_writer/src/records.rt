@@ -27,8 +27,8 @@ pub fn write_word(x: u16, file: &mut [u8], i: usize) -> usize
     i + 2
 }
 
-// The sites of a list, a byte each.
-fn write_list(list: &[u8], file: &mut [u8], i: usize) -> usize
+// The bytes of a list: sites, a byte each, or a text.
+pub fn write_list(list: &[u8], file: &mut [u8], i: usize) -> usize
     requires { ⌜ i + length (now list) ≤ length (now file) ⌝ }
     ensures { λ r. ⌜ Written (now (file .entry)) i (now (list .entry)) (now (file .exit)) r ⌝ }
 {

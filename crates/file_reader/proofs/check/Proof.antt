@@ -5,8 +5,8 @@ use Rattle.file_reader.proofs.Whole.{town-stops, town-there, scores-sto
 use Rattle.file_reader.proofs.check.Statement.{statement}
 use Rattle.file_reader.proofs.check.Tie as tie
 
-record-at-requires : tie.Need-record-at-requires
-record-at-requires c κs = search needs
+town-requires : tie.Need-town-requires
+town-requires c κs = search needs
 
 enum-known-town : tie.Need-enum-known-town
 enum-known-town c = search needs
@@ -15,13 +15,13 @@ number-of-requires : tie.Need-number-of-requires
 number-of-requires c κs = search needs
 
 returns : tie.Need-returns
-returns c = town-stops (c .before .before .before .before .args .file .now) _ _ (c .before .before .record-at .ensures) (c .before .match .keys2) (c .number-of .ensures)
+returns c = town-stops (c .before .before .before .before .args .file .now) _ _ (c .before .before .town .ensures) (c .before .match .keys2) (c .number-of .ensures)
 
-record-at-requires-2 : tie.Need-record-at-requires-2
-record-at-requires-2 c κs =
+scores-requires : tie.Need-scores-requires
+scores-requires c κs =
     let file = c .before .before .before .before .before .args .file .now in
-    let t = c .before .town .given .0 in
-    let town = sym (c .before .town .given .1) ∙ c .before .before .before .record-at .ensures in
+    let t = c .before .town2 .given .0 in
+    let town = sym (c .before .town2 .given .1) ∙ c .before .before .before .town .ensures in
     town-there file (t .0) (t .1 .0) (t .1 .1 .0) (t .1 .1 .1 .0) town
 
 enum-told : tie.Need-enum-told
@@ -33,33 +33,24 @@ number-of-requires-2 c κs = search needs
 returns-2 : tie.Need-returns-2
 returns-2 c =
     let file = c .before .before .before .before .before .before .before .before .args .file .now in
-    let t = c .before .before .before .before .town .given .0 in
-    let town = sym (c .before .before .before .before .town .given .1) ∙ c .before .before .before .before .before .before .record-at .ensures in
-    scores-stop file (t .0) (t .1 .0) (t .1 .1 .0) (t .1 .1 .1 .0) town _ _ (c .before .before .record-at2 .ensures) (c .before .match2 .keys2) (c .number-of2 .ensures)
+    let t = c .before .before .before .before .town2 .given .0 in
+    let town = sym (c .before .before .before .before .town2 .given .1) ∙ c .before .before .before .before .before .before .town .ensures in
+    scores-stop file (t .0) (t .1 .0) (t .1 .1 .0) (t .1 .1 .1 .0) town _ _ (c .before .before .scores .ensures) (c .before .match2 .keys2) (c .number-of2 .ensures)
 
-cast-streets-refusal : tie.Need-cast-streets-refusal
-cast-streets-refusal c = search needs
-
-mul-streets-refusal : tie.Need-mul-streets-refusal
-mul-streets-refusal c = search needs
-
-add-streets-refusal : tie.Need-add-streets-refusal
-add-streets-refusal c = search needs
-
-streets-refusal-requires : tie.Need-streets-refusal-requires
-streets-refusal-requires c κs =
+streets-and-end-requires : tie.Need-streets-and-end-requires
+streets-and-end-requires c κs =
     let file = c .before .before .before .before .before .before .before .before .args .file .now in
-    let t = c .before .before .before .before .town .given .0 in
-    let town = sym (c .before .before .before .before .town .given .1) ∙ c .before .before .before .before .before .before .record-at .ensures in
-    scores-there file (t .0) (t .1 .0) (t .1 .1 .0) (t .1 .1 .1 .0) town (sym (c .enum-told .given .1) ∙ c .before .before .record-at2 .ensures)
+    let t = c .before .before .before .before .town2 .given .0 in
+    let town = sym (c .before .before .before .before .town2 .given .1) ∙ c .before .before .before .before .before .before .town .ensures in
+    scores-there file (t .0) (t .1 .0) (t .1 .1 .0) (t .1 .1 .1 .0) town (sym (c .enum-told .given .1) ∙ c .before .before .scores .ensures)
 
 returns-3 : tie.Need-returns-3
 returns-3 c =
     let file = c .before .before .before .before .before .before .before .before .before .before .args .file .now in
-    let t = c .before .before .before .before .before .before .town .given .0 in
-    let town = sym (c .before .before .before .before .before .before .town .given .1) ∙ c .before .before .before .before .before .before .before .before .record-at .ensures in
-    let scores = sym (c .before .before .enum-told .given .1) ∙ c .before .before .before .before .record-at2 .ensures in
-    streets-stop file (t .0) (t .1 .0) (t .1 .1 .0) (t .1 .1 .1 .0) town scores _ (c .before .streets-refusal .ensures) (c .if1 .taken)
+    let t = c .before .before .before .before .before .before .town2 .given .0 in
+    let town = sym (c .before .before .before .before .before .before .town2 .given .1) ∙ c .before .before .before .before .before .before .before .before .town .ensures in
+    let scores = sym (c .before .before .enum-told .given .1) ∙ c .before .before .before .before .scores .ensures in
+    streets-stop file (t .0) (t .1 .0) (t .1 .1 .0) (t .1 .1 .1 .0) town scores _ (c .before .streets-and-end .ensures) (c .if1 .taken)
 
 cast-t12 : tie.Need-cast-t12
 cast-t12 c = search needs
@@ -73,27 +64,24 @@ cast-t14 c = search needs
 returns-4 : tie.Need-returns-4
 returns-4 c =
     let file = c .before .before .before .before .before .before .before .before .before .before .args .file .now in
-    let t = c .before .before .before .before .before .before .town .given .0 in
-    let town = sym (c .before .before .before .before .before .before .town .given .1) ∙ c .before .before .before .before .before .before .before .before .record-at .ensures in
-    let scores = sym (c .before .before .enum-told .given .1) ∙ c .before .before .before .before .record-at2 .ensures in
-    nothing-refused file (t .0) (t .1 .0) (t .1 .1 .0) (t .1 .1 .1 .0) town scores _ (c .before .streets-refusal .ensures) (c .if1 .left)
+    let t = c .before .before .before .before .before .before .town2 .given .0 in
+    let town = sym (c .before .before .before .before .before .before .town2 .given .1) ∙ c .before .before .before .before .before .before .before .before .town .ensures in
+    let scores = sym (c .before .before .enum-told .given .1) ∙ c .before .before .before .before .scores .ensures in
+    nothing-refused file (t .0) (t .1 .0) (t .1 .1 .0) (t .1 .1 .1 .0) town scores _ (c .before .streets-and-end .ensures) (c .if1 .left)
 
 pub check-spec : {M : Type 1} → statement M
 check-spec =
     tie.close
     (tie.spec
-    record-at-requires
+    town-requires
     enum-known-town
     number-of-requires
     returns
-    record-at-requires-2
+    scores-requires
     enum-told
     number-of-requires-2
     returns-2
-    cast-streets-refusal
-    mul-streets-refusal
-    add-streets-refusal
-    streets-refusal-requires
+    streets-and-end-requires
     returns-3
     cast-t12
     cast-t13

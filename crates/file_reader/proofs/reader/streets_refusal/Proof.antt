@@ -1,4 +1,4 @@
--- `file_reader::streets_refusal` meets its contract. Assumes nothing.
+-- `file_reader::reader::streets_refusal` meets its contract. Assumes nothing.
 use borrow.Author.Needs.{needs}
 use mathlib.Core.Path.{_≡_, sym, _∙_}
 use Prim.Native.Nat.{_+_, _-_, _≤_}
@@ -10,8 +10,8 @@ use Rattle.survey_file.specs.Decode.{past, streetRecord}
 use Rattle.file_reader.specs.declared.records.Due.the-variants as due
 use Rattle.file_reader.proofs.Reading.{number-is}
 use Rattle.file_reader.proofs.Walking.{street-taken, past-none, street-stops, street-past, street-passes, end-is}
-use Rattle.file_reader.proofs.streets_refusal.Statement.{statement}
-use Rattle.file_reader.proofs.streets_refusal.Tie as tie
+use Rattle.file_reader.proofs.reader.streets_refusal.Statement.{statement}
+use Rattle.file_reader.proofs.reader.streets_refusal.Tie as tie
 
 abbrev Inv-loop : tie.InvT-loop
 Inv-loop file from n m at₀ i₀ at i = (i ≤ n) × (at ≤ length file) × (drop at file ≡ past (drop from file) i) × (firstOf i (streetRecord m (drop from file)) ≡ 0)

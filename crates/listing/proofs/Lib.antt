@@ -1,0 +1,4 @@
+pub mod Rooms
+pub mod Decimals
+pub mod Streets
+pub mod Sizes

@@ -1,0 +1,64 @@
+-- `listing::write_sites` meets its contract. Assumes nothing.
+use borrow.Author.Needs.{needs}
+use native.Mathlib.Omega.{arith}
+use mathlib.Core.Path.{_≡_, refl}
+use Prim.Native.Nat.{_≤_, _-_}
+use lib.ListN.{length}
+use Rattle.counting.specs.Lists.{at}
+use Rattle.counting.specs.Buffers.{joined}
+use Rattle.file_writer.specs.Written.{Written}
+use Rattle.file_writer.proofs.Laying.{written-size, turns-none, turns-room, turns-more, turns-all}
+use Rattle.listing.specs.Listing.{spaced}
+use Rattle.listing.proofs.write_sites.Statement.{statement}
+use Rattle.listing.proofs.write_sites.Tie as tie
+
+abbrev Inv-loop : tie.InvT-loop
+Inv-loop sites out₀ i next₀ j₀ j-end out next j = (j ≤ j-end) × (j-end ≡ length sites) × Written out₀ i (joined j (λ k. spaced (at sites k))) out next
+
+abbrev μ-loop : tie.MeasureT-loop
+μ-loop sites out₀ i next₀ j₀ j-end out next j = j-end - j
+
+loop-holds : tie.Need-loop-holds Inv-loop μ-loop
+loop-holds c = let a = c .before .before .args in (search needs, refl, turns-none (a .out .now) (a .i) _ (omega (arith, c .before .before .pre)))
+
+shared-slice-read-write-spaced : tie.Need-shared-slice-read-write-spaced Inv-loop μ-loop
+shared-slice-read-write-spaced c = search needs
+
+cast-write-spaced : tie.Need-cast-write-spaced Inv-loop μ-loop
+cast-write-spaced c = omega (arith, c .shared-slice-known2 .given (c .before .before .loop .j))
+
+write-spaced-requires : tie.Need-write-spaced-requires Inv-loop μ-loop
+write-spaced-requires c κs =
+    let a = c .before .before .before .before .before .before .args in
+    turns-room (λ k. spaced (at (a .sites .now) k)) (c .before .before .before .loop .inv .2) (length (a .sites .now)) (omega arith) (c .before .before .before .before .before .before .pre)
+
+add-j : tie.Need-add-j Inv-loop μ-loop
+add-j c = search needs
+
+loop-less : tie.Need-loop-less Inv-loop μ-loop
+loop-less c = search needs
+
+loop-again : tie.Need-loop-again Inv-loop μ-loop
+loop-again c = (omega arith, refl, turns-more _ (c .before .before .before .before .before .before .loop .inv .2) (c .before .before .write-spaced .ensures))
+
+same-length : tie.Need-same-length Inv-loop μ-loop
+same-length c = written-size (c .before .loop .inv .2)
+
+returns : tie.Need-returns Inv-loop μ-loop
+returns c = turns-all _ (c .before .loop .inv .2) _ (omega arith) (omega arith)
+
+pub write-sites-spec : {M : Type 1} → statement M
+write-sites-spec =
+    tie.close
+    (tie.spec
+    Inv-loop
+    μ-loop
+    loop-holds
+    shared-slice-read-write-spaced
+    cast-write-spaced
+    write-spaced-requires
+    add-j
+    loop-less
+    loop-again
+    same-length
+    returns)

@@ -1,0 +1,187 @@
+-- The first 27,740 bytes of an input decide what is printed, so that the program reads no more of them.
+-- Assumes nothing.
+use mathlib.Core.Path.{_≡_, refl, sym, ap, _∙_}
+use mathlib.Core.Logic.{by-cases}
+use mathlib.Core.List.{List, [], _∷_}
+use Prim.Native.Nat.{ℕ, zero, suc, _+_, _-_, _*_, _≤_, _<_}
+use native.Mathlib.Nat.{sub-zero, zero-sub, suc-sub-suc}
+use native.Mathlib.Decide.{decLt}
+use native.Mathlib.Omega.{arith}
+use lib.Dec.{ltb, eqb, lit<}
+use lib.ListN.{length, take, drop, length-drop}
+use lib.Seq.{length-take-le, take-all, take-take, getD-take}
+use borrow.Author.Tests.{lt-ltb, ltb-false}
+use Rattle.counting.specs.Words.{_when_, _unless_, _orElse_, firstOf}
+use Rattle.counting.specs.Lists.{at}
+use Rattle.counting.proofs.Refusals.{or-zero, when-zero, within}
+use Rattle.survey.specs.Refusals.{kindRefusal}
+use Rattle.survey.proofs.Sound.{accepted}
+use Rattle.survey_file.specs.Encode.{townMark, scoresMark, streetMark, endMark}
+use Rattle.survey_file.specs.Decode.{wordAt, shortRefusal, markRefusal, townFields, scoresIn, scoresFields, listIn, byteField, streetFields, endFields, past, streetRecord, streetsAndEnd, streetsIn, sitesIn, chosenIn, kindIn, scoresPart, fileRefusal, rowsIn}
+use Rattle.survey_file.proofs.Joined.{joined-same}
+use Rattle.survey_file.proofs.Bytes.{Bytes}
+use Rattle.survey_file.proofs.Tries.{short-right}
+use Rattle.survey_file.proofs.Accepting.{town-says, street-says}
+use Rattle.survey_file.proofs.WrittenBack.{encode-decode, decode-accepted}
+use Rattle.survey_file.proofs.Lengths.{encode-most}
+use Rattle.printing.specs.Texts.{unlessRefused, printed}
+
+-- the second of two tries counts only where the first refuses nothing
+or-same : (a b c : ℕ) → (a ≡ 0 → b ≡ c) → a orElse b ≡ a orElse c
+unfolding _orElse_
+or-same zero b c h = h refl
+or-same (suc a) b c h = refl
+
+-- and of many each only where those before refuse nothing
+first-until : (n : ℕ) (f g : ℕ → ℕ) → ((i : ℕ) → i < n → firstOf i g ≡ 0 → f i ≡ g i) → firstOf n f ≡ firstOf n g
+unfolding firstOf
+first-until zero f g h = refl
+first-until (suc n) f g h =
+    ap (λ (x : ℕ). x orElse f n) (first-until n f g (λ i l. h i (omega arith))) ∙ or-same (firstOf n g) (f n) (g n) (h n (omega arith))
+
+drop-take : (a k : ℕ) (list : List ℕ) → drop a (take k list) ≡ take (k - a) (drop a list)
+drop-take zero k list = rw (sub-zero k)
+drop-take (suc a) zero list = rw (zero-sub (suc a))
+drop-take (suc a) (suc k) [] = sym (take-all (suc k - suc a) [] (omega arith))
+drop-take (suc a) (suc k) (x ∷ list) = rw (suc-sub-suc k a) (drop-take a k list)
+
+-- ---- records of which the first k bytes are looked at
+module _ (k : ℕ) (rest : List ℕ) (long : k ≤ length rest) where
+  same-at : (i : ℕ) → i < k → at (take k rest) i ≡ at rest i
+  same-at i l = getD-take k rest i 0 l
+
+  same-word : (i : ℕ) → i + 1 < k → wordAt (take k rest) i ≡ wordAt rest i
+  same-word i l = rw (same-at i (omega arith), same-at (i + 1) l)
+
+  same-short : (size : ℕ) → size ≤ k → shortRefusal (take k rest) size ≡ shortRefusal rest size
+  same-short size l =
+      short-right (take k rest) size (omega (arith, length-take-le k rest long)) ∙ sym (short-right rest size (omega arith))
+
+  same-mark : (due : ℕ) → 2 ≤ k → markRefusal due (take k rest) ≡ markRefusal due rest
+  same-mark due l = rw (same-short 2 l, same-word 0 (omega arith))
+
+  same-town : 7 ≤ k → townFields (take k rest) ≡ townFields rest
+  same-town l = rw (same-short 7 l, same-word 2 (omega arith), same-at 4 (omega arith), same-at 5 (omega arith), same-at 6 (omega arith))
+
+  same-scores : (m : ℕ) → 2 + 2 * m ≤ k → scoresFields m (take k rest) ≡ scoresFields m rest
+  same-scores m l =
+      let scores : scoresIn m (take k rest) ≡ scoresIn m rest =
+      joined-same m (λ i. wordAt (take k rest) (2 + 2 * i) ∷ []) (λ i. wordAt rest (2 + 2 * i) ∷ []) (λ i h. ap (λ (x : ℕ). x ∷ []) (same-word (2 + 2 * i) (omega arith))) in
+      rw (same-short (2 + 2 * m) l, scores)
+
+  same-list : 5 + at rest 4 ≤ k → take (at rest 4) (drop 5 (take k rest)) ≡ listIn rest
+  same-list l = rw (drop-take 5 k rest) (take-take (at rest 4) (k - 5) (drop 5 rest) (omega arith))
+
+  same-street : (m number : ℕ) → 5 + m ≤ k → streetFields m number (take k rest) ≡ streetFields m number rest
+  same-street m number l =
+      let bytes : List ℕ → ℕ = λ list. firstOf (length list) (byteField m list) in
+      let x : ℕ = at rest 4 in
+      rw (same-short 5 (omega arith), same-word 2 (omega arith), same-at 4 (omega arith))
+      (or-same (shortRefusal rest 5) _ _ (λ a.
+      or-same (14 unless eqb (wordAt rest 2) number) _ _ (λ b.
+      or-same (15 when ltb m x) _ _ (λ c.
+      let few : x ≤ m = ltb-false m x (when-zero 15 (ltb m x) (lit< tt) c) in
+      rw (same-short (5 + x) (omega arith)) (ap (λ (y : ℕ). shortRefusal rest (5 + x) orElse y) (ap bytes (same-list (omega arith))))))))
+
+-- ---- the street records
+-- what is left of the first `size` bytes once i records are read: no record has more than 69 bytes
+record Left (streets : List ℕ) (size i : ℕ) : Type 0 where
+  left : ℕ
+  cut : past (take size streets) i ≡ take left (past streets i)
+  there : left ≤ length (past streets i)
+  enough : size ≤ left + i * 69
+
+module _ (m n size : ℕ) (streets : List ℕ) (few : m ≤ 64) (room : n * 69 + 3 ≤ size) (long : size ≤ length streets) where
+  left-first : Left streets size 0
+  unfolding past
+  left-first = record { left = size; cut = refl; there = long; enough = omega arith }
+
+  left-next : (i : ℕ) → i < n → at (past streets i) 4 ≤ m → Left streets size i → Left streets size (suc i)
+  unfolding past
+  left-next i l short w =
+      let rest : List ℕ = past streets i in
+      let x : ℕ = 5 + at rest 4 in
+      let much : 72 ≤ w .left = omega (arith, w .enough) in
+      let same : at (past (take size streets) i) 4 ≡ at rest 4 = ap (λ (y : List ℕ). at y 4) (w .cut) ∙ same-at (w .left) rest (w .there) 4 (omega arith) in
+      record {
+        left = w .left - x;
+        cut = rw (same, w .cut) (drop-take x (w .left) rest);
+        there = omega (arith, length-drop x rest, w .there);
+        enough = omega (arith, w .enough);
+      }
+
+  left-all : (i : ℕ) → i ≤ n → firstOf i (streetRecord m streets) ≡ 0 → Left streets size i
+  unfolding firstOf
+  left-all zero l e = left-first
+  left-all (suc i) l e =
+      let (before, this) = or-zero (firstOf i (streetRecord m streets)) (streetRecord m streets i) e in
+      left-next i l (street-says m (suc i) (past streets i) this .short) (left-all i (omega arith) before)
+
+  same-record : (i : ℕ) → i < n → firstOf i (streetRecord m streets) ≡ 0 → streetRecord m (take size streets) i ≡ streetRecord m streets i
+  same-record i l e =
+      let w = left-all i (omega arith) e in
+      let much : 72 ≤ w .left = omega (arith, w .enough) in
+      rw (w .cut, same-mark (w .left) (past streets i) (w .there) streetMark (omega arith), same-street (w .left) (past streets i) (w .there) m (suc i) (omega arith))
+
+  same-end : firstOf n (streetRecord m streets) ≡ 0 →
+      markRefusal endMark (past (take size streets) n) orElse endFields (past (take size streets) n) ≡ markRefusal endMark (past streets n) orElse endFields (past streets n)
+  same-end e =
+      let w = left-all n (omega arith) e in
+      let much : 3 ≤ w .left = omega (arith, w .enough) in
+      let rest : List ℕ = past streets n in
+      let more : ltb 2 (length (take (w .left) rest)) ≡ ltb 2 (length rest) =
+      lt-ltb 2 (length (take (w .left) rest)) (omega (arith, length-take-le (w .left) rest (w .there))) ∙ sym (lt-ltb 2 (length rest) (omega (arith, w .there))) in
+      rw (w .cut, same-mark (w .left) rest (w .there) endMark (omega arith), more)
+
+  same-streets : streetsAndEnd n m (take size streets) ≡ streetsAndEnd n m streets
+  same-streets =
+      ap (λ (x : ℕ). x orElse markRefusal endMark (past (take size streets) n) orElse endFields (past (take size streets) n))
+      (first-until n (streetRecord m (take size streets)) (streetRecord m streets) same-record)
+      ∙ or-same (firstOf n (streetRecord m streets)) _ _ same-end
+
+-- ---- the file
+module _ (most : ℕ) (file : List ℕ) (much : 27740 ≤ most) (long : most ≤ length file) where
+  same-town-record : markRefusal townMark (take most file) orElse townFields (take most file) ≡ markRefusal townMark file orElse townFields file
+  same-town-record = rw (same-mark most file long townMark (omega arith), same-town most file long (omega arith))
+
+  same-table : (m : ℕ) → m ≤ 64 → markRefusal scoresMark (drop 7 (take most file)) orElse scoresFields m (drop 7 (take most file)) ≡ markRefusal scoresMark (drop 7 file) orElse scoresFields m (drop 7 file)
+  same-table m few =
+      let there : most - 7 ≤ length (drop 7 file) = omega (arith, length-drop 7 file) in
+      rw (drop-take 7 most file, same-mark (most - 7) (drop 7 file) there scoresMark (omega arith), same-scores (most - 7) (drop 7 file) there m (omega arith))
+
+  same-rest : (n m : ℕ) → n ≤ 400 → m ≤ 64 → streetsAndEnd n m (drop (9 + 2 * m) (take most file)) ≡ streetsAndEnd n m (drop (9 + 2 * m) file)
+  same-rest n m fewer few =
+      rw (drop-take (9 + 2 * m) most file)
+      (same-streets m n (most - (9 + 2 * m)) (drop (9 + 2 * m) file) few (omega arith) (omega (arith, length-drop (9 + 2 * m) file)))
+
+  same-file : fileRefusal (take most file) ≡ fileRefusal file
+  unfolding fileRefusal
+  same-file =
+      rw (same-town-record, same-at most file long 4 (omega arith), same-word most file long 2 (omega arith))
+      (or-same (markRefusal townMark file orElse townFields file) _ _ (λ e.
+      let town = town-says file e in
+      let few : sitesIn file ≤ 64 = within 2 (sitesIn file) 1 64 (lit< tt) (town .sites) .1 in
+      let fewer : streetsIn file ≤ 400 = within 1 (streetsIn file) 1 400 (lit< tt) (town .streets) .1 in
+      rw (same-table (sitesIn file) few, same-rest (streetsIn file) (sitesIn file) fewer few)))
+
+-- a file that is not refused has at most 27739 bytes
+accepted-short : (file : List ℕ) → Bytes file → fileRefusal file ≡ 0 → length file ≤ 27739
+accepted-short file bytes ok =
+    let n : ℕ = streetsIn file in
+    let m : ℕ = sitesIn file in
+    let k : ℕ = chosenIn file in
+    let scores : List ℕ = scoresIn m (scoresPart file) in
+    let most = encode-most n m k (kindIn file) scores (rowsIn file) (accepted n m k (kindRefusal (kindIn file)) scores (rowsIn file) (decode-accepted file ok)) in
+    omega (arith, most, ap length (encode-decode file ok bytes))
+
+-- where there is a refusal it alone is printed
+refused-same : (x : ℕ) (text other : List ℕ) → (x ≡ 0 → ⊥) → unlessRefused x text ≡ unlessRefused x other
+refused-same zero text other h = absurd (h refl)
+refused-same (suc x) text other h = refl
+
+pub enough : (most : ℕ) (input : List ℕ) → 27740 ≤ most → Bytes input → printed (take most input) ≡ printed input
+unfolding printed
+enough most input much bytes =
+    by-cases (decLt most (length input))
+    (λ l. rw (same-file most input much (omega arith)) (refused-same (fileRefusal input) _ _ (λ e. let s = accepted-short input bytes e in omega arith)))
+    (λ h. ap printed (take-all most input (omega arith)))

@@ -1,0 +1,4 @@
+pub mod Worked
+pub mod Planned
+pub mod Printed
+pub mod Enough
