@@ -10,7 +10,7 @@ ghost use Prim.Native.Nat.{_≤_, _<_};
 ghost use Rattle.io.specs.Counts.{Counts};
 
 // the last command, the most cases, and the most bytes up to the end of a number
-const LAST: usize = 11;
+const LAST: usize = 13;
 
 const CASES: u64 = 10000;
 
@@ -21,10 +21,12 @@ const SCORES: usize = 65;
 
 const BYTES: usize = 26000;
 
-// what is above the length of a list, and above every number
+// what is above the length of a list, above every total, and above every number
 const SCORES_BOUND: usize = SCORES + 1;
 
 const BYTES_BOUND: usize = BYTES + 1;
+
+const TOTALS_BOUND: usize = 4294967296;
 
 const BOUND: usize = 10000000000000;
 
@@ -405,6 +407,50 @@ fn read_case() {
     read_in(&file[..f_len], &mut rows[..r_len], &mut scores[..s_len]);
 }
 
+// The test of a hand plan, balanced or free.
+fn hand_of(
+    balanced: bool,
+    n: usize,
+    m: usize,
+    k: usize,
+    scores: &[u16],
+    rows: &[u8],
+    division: &[u8],
+    claimed: u32,
+) -> Answer {
+    if balanced {
+        return planner::balanced_hand(n, m, k, scores, rows, division, claimed);
+    }
+    planner::free_hand(n, m, k, scores, rows, division, claimed)
+}
+
+// Commands 12, free, and 13, balanced: the streets, the sites, the chosen; the scores; the rows; the division; the claimed total.
+fn hand_case(balanced: bool) {
+    let n = number(BOUND);
+    let m = number(BOUND);
+    let k = number(BOUND);
+    let s = scores_list();
+    let r = bytes_list();
+    let d = bytes_list();
+    let claimed = number(TOTALS_BOUND);
+    let scores = s.buffer;
+    let s_len = s.len;
+    let rows = r.buffer;
+    let r_len = r.len;
+    let division = d.buffer;
+    let d_len = d.len;
+    say_answer(hand_of(
+        balanced,
+        n,
+        m,
+        k,
+        &scores[..s_len],
+        &rows[..r_len],
+        &division[..d_len],
+        claimed as u32,
+    ));
+}
+
 // The line of one case; false where the command is none, which ends the run.
 fn one_case(case: u64, command: usize) -> bool {
     if LAST < command {
@@ -423,7 +469,9 @@ fn one_case(case: u64, command: usize) -> bool {
         8 => plan_case(true),
         9 => floor_case(),
         10 => write_case(),
-        _ => read_case(),
+        11 => read_case(),
+        12 => hand_case(false),
+        _ => hand_case(true),
     }
     io::write_all(STDOUT_FILENO, b"\n");
     true

@@ -1,17 +1,17 @@
--- Laws of lists: of the numbers of a list that pass a test, of its first numbers, and of sums over it.
+-- Laws of lists: of the numbers of a list that pass a test, of its first numbers, of how often one stands in it, and of sums over it.
 -- Assumes nothing.
 use mathlib.Core.Path.{_≡_, refl, sym}
 use mathlib.Core.Bool.{Bool, true, false, not, _&&_, true≢false, and-eq-true-iff, and-false}
 use mathlib.Mathlib.Data.Bool.Basic.{dichotomy}
 use mathlib.Core.Logic.{⊎-elim}
 use mathlib.Core.List.{List, [], _∷_}
-use Prim.Native.Nat.{ℕ, zero, suc, _+_, _*_}
+use Prim.Native.Nat.{ℕ, zero, suc, _+_, _*_, _≤_, _<_}
 use native.Mathlib.Omega.{arith}
 use lib.Dec.{eqb}
 use lib.ListN.{length, take}
-use borrow.Author.Tests.{eqb-true}
+use borrow.Author.Tests.{eqb-true, eq-eqb}
 use Rattle.counting.specs.Words.{one}
-use Rattle.counting.specs.Lists.{has, distinct, sum, only}
+use Rattle.counting.specs.Lists.{has, distinct, count, sum, only}
 use Rattle.counting.proofs.Refusals.{or-left, and-both}
 use Rattle.counting.proofs.Membership.{cond-at, or-cases, has-tail, one-not}
 
@@ -67,6 +67,20 @@ take-distinct (suc q) (a ∷ list) d =
     let (new, apart) = and-eq-true-iff (not (has a list)) (distinct list) .0 d in
     let first : not (has a (take q list)) ≡ true = not-in (has a list) (has a (take q list)) (has-take q a list) new in
     and-both (not (has a (take q list))) (distinct (take q list)) first (take-distinct q list apart)
+
+-- ---- how often a number stands in a list
+-- no more often than the list is long
+pub count-most : (list : List ℕ) (a : ℕ) → count list a ≤ length list
+unfolding count
+count-most [] a = omega arith
+count-most (b ∷ list) a = omega (arith, one-not (eqb b a), count-most list a)
+
+-- a number that is counted stands in it
+pub count-has : (list : List ℕ) (a : ℕ) → 0 < count list a → has a list ≡ true
+unfolding count
+count-has [] a h = absurd (omega arith)
+count-has (b ∷ list) a h =
+    ⊎-elim (λ o. has-tail a b list (count-has list a (omega (arith, rw o at h)))) (λ y. or-left (eqb a b) (has a list) (eq-eqb a b (sym (eqb-true b a y)))) (dichotomy (eqb b a))
 
 -- ---- sums
 -- a sum of equal numbers

@@ -38,6 +38,11 @@ pub sumOf-same : (n : ℕ) (f g : ℕ → ℕ) → ((i : ℕ) → i < n → f i 
 sumOf-same zero f g h = refl
 sumOf-same (suc n) f g h = omega (arith, h n (omega arith), sumOf-same n f g (λ i l. h i (omega arith)))
 
+-- a sum whose numbers are no greater is no greater
+pub sumOf-le : (n : ℕ) (f g : ℕ → ℕ) → ((i : ℕ) → i < n → f i ≤ g i) → sumOf n f ≤ sumOf n g
+sumOf-le zero f g h = omega arith
+sumOf-le (suc n) f g h = omega (arith, h n (omega arith), sumOf-le n f g (λ i l. h i (omega arith)))
+
 -- a sum of which one number is x more is x more
 pub sumOf-more : (n : ℕ) (f g : ℕ → ℕ) (b x : ℕ) → b < n → f b ≡ g b + x → ((i : ℕ) → i ≢ b → f i ≡ g i) → sumOf n f ≡ sumOf n g + x
 sumOf-more zero f g b x l e h = absurd (omega arith)

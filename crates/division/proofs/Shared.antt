@@ -1,6 +1,6 @@
 -- Laws of shares that are made from a list of chosen sites: the share of each site, and what the shares sum to.
 -- Assumes nothing.
-use mathlib.Core.Path.{_≡_, refl, sym, _∙_}
+use mathlib.Core.Path.{_≡_, refl, sym, ap, _∙_}
 use mathlib.Core.Bool.{true, false, not, true≢false, and-eq-true-iff}
 use mathlib.Mathlib.Data.Bool.Basic.{dichotomy, or-eq-false-eq-eq-false-and-eq-false}
 use mathlib.Core.Logic.{_≢_, ⊎-elim, by-cases}
@@ -12,13 +12,13 @@ use native.Mathlib.Omega.{arith}
 use lib.Dec.{eqb}
 use lib.ListN.{length, List·getD-eq-default}
 use borrow.Author.Tests.{eq-eqb, ne-eqb, eqb-false, not-true}
-use Rattle.counting.specs.Words.{sumOf}
+use Rattle.counting.specs.Words.{one, sumOf, countOf}
 use Rattle.counting.specs.Lists.{at, has, distinct}
 use Rattle.counting.specs.Buffers.{joined, listOf}
 use Rattle.counting.specs.Sites.{Sites}
 use Rattle.counting.proofs.Membership.{has-head, has-tail}
 use Rattle.division.specs.Shares.{share, shareAmong, sharesOf}
-use Rattle.counting.proofs.Sums.{listOf-length, listOf-at, sumOf-more, sumOf-front, sumOf-even, has-at}
+use Rattle.counting.proofs.Sums.{listOf-length, listOf-at, sumOf-same, sumOf-more, sumOf-front, sumOf-even, has-at, has-index}
 use Rattle.division.proofs.Counts.{shareSum}
 
 -- one site more at the end of the shares adds its share to their sum
@@ -79,6 +79,27 @@ among-sum q (suc b ∷ chosen) m w d =
     let again = among-sum (λ i. q (suc i)) chosen m (λ a h. w a (has-tail a (suc b) chosen h)) apart in
     let fits : b < m = w (suc b) (has-head (suc b) chosen) .1 in
     omega (arith, again, sumOf-front (length chosen) q, sumOf-more m (λ i. shareAmong q (suc b ∷ chosen) (suc i)) more b (q 0) fits here other)
+
+-- where all have the same share, a chosen site has it
+among-even : (x : ℕ) (chosen : List ℕ) (a : ℕ) → distinct chosen ≡ true → has a chosen ≡ true → shareAmong (λ i. x) chosen a ≡ x
+among-even x chosen a d h = let (i, l, e) = has-index a chosen h in rw (← e) (among-at (λ i. x) chosen i d l)
+
+-- of the sites 1 to m as many stand in a list of different ones as it has
+pub listed-count : (chosen : List ℕ) (m : ℕ) → Sites m chosen → distinct chosen ≡ true → countOf m (λ i. has (suc i) chosen) ≡ length chosen
+listed-count chosen m w d = sumOf-same m _ _ (λ i l. share-one (suc i)) ∙ among-sum (λ i. 1) chosen m w d ∙ omega (arith, sumOf-even (length chosen) 1)
+  where
+    share-one : (a : ℕ) → one (has a chosen) ≡ shareAmong (λ i. 1) chosen a
+    share-one a = ⊎-elim (λ o. rw o (sym (among-none (λ i. 1) chosen a o))) (λ y. rw y (sym (among-even 1 chosen a d y))) (dichotomy (has a chosen))
+
+-- so many have the share that all chosen ones have, where it is above 0
+pub even-count : (x : ℕ) (chosen : List ℕ) (m : ℕ) → 0 < x → Sites m chosen → distinct chosen ≡ true
+    → countOf m (λ i. eqb x (shareAmong (λ i. x) chosen (suc i))) ≡ length chosen
+even-count x chosen m l w d = sumOf-same m _ _ (λ i k. ap one (has-share (suc i))) ∙ listed-count chosen m w d
+  where
+    has-share : (a : ℕ) → eqb x (shareAmong (λ i. x) chosen a) ≡ has a chosen
+    has-share a =
+        ⊎-elim (λ o. rw (among-none (λ i. x) chosen a o, o) (ne-eqb x 0 (λ e. omega arith)))
+        (λ y. rw (among-even x chosen a d y, y) (eq-eqb x x refl)) (dichotomy (has a chosen))
 
 -- the shares of different sites sum to what the chosen ones have
 pub shares-sum : (q : ℕ → ℕ) (chosen : List ℕ) (m : ℕ) → Sites m chosen → distinct chosen ≡ true

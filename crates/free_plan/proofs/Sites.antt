@@ -1,6 +1,8 @@
--- Laws of the greedy list: it is a plan of different sites of 1 to m, it holds the list it starts from, and each round only adds behind it.
+-- Laws of the greedy list: it is a plan of different sites of 1 to m, it holds the list it starts from, and each round only adds behind it; and that
+-- a street goes to a chosen site.
 -- Assumes nothing.
-use mathlib.Core.Path.{_≡_, refl, _∙_}
+use mathlib.Core.Path.{_≡_, refl, sym, _∙_}
+use mathlib.Core.Bool.{true}
 use mathlib.Core.List.{List, [], _∷_, _++_}
 use Prim.Native.Nat.{ℕ, zero, suc, _+_, _≤_, _<_}
 use native.Mathlib.Nat.{zero-add, add-zero, add-suc}
@@ -8,12 +10,12 @@ use native.Mathlib.Numerals.{add-one}
 use native.Mathlib.Omega.{arith}
 use lib.ListN.{length, take, length-append}
 use lib.Seq.{take-all, take-append-le}
-use Rattle.counting.specs.Lists.{has}
-use Rattle.counting.proofs.Refusals.{or-left}
+use Rattle.counting.specs.Lists.{at, has}
+use Rattle.counting.proofs.Refusals.{or-left, when-some, first-find}
 use Rattle.counting.proofs.Membership.{has-append}
 use Rattle.counting.proofs.Plans.{plan-none, plan-add}
 use Rattle.counting.proofs.Choice.{unchosen-only, unchosen-greatest}
-use Rattle.free_plan.specs.Greedy.{pick, greedy}
+use Rattle.free_plan.specs.Greedy.{pick, greedy, chosenAt, goesTo}
 use Rattle.counting.specs.Sites.{Sub, Plan}
 
 -- a list with more sites behind it holds those that it had
@@ -57,3 +59,10 @@ module _ (v : ℕ → ℕ → ℕ) (n m : ℕ) where
   pub greedy-holds : (k : ℕ) (S : List ℕ) → Sub S (greedy v n m k S)
   greedy-holds zero S a h = h
   greedy-holds (suc k) S a h = sub-append (greedy v n m k S) (pick v n m (greedy v n m k S) ∷ []) a (greedy-holds k S a h)
+
+-- where a street goes is a chosen site, unless it goes nowhere
+pub goes-chosen : (L S : List ℕ) → 0 < goesTo (λ a. has a S) L → has (goesTo (λ a. has a S) L) S ≡ true
+goes-chosen L S p =
+    let (i, l, e, before) = first-find (length L) (chosenAt (λ a. has a S) L) p in
+    let (h, w) = when-some (at L i) (has (at L i) S) (rw e p) in
+    rw (sym e ∙ w) h

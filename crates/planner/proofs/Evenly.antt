@@ -1,14 +1,15 @@
--- The balanced entries' clauses, from what the engine gave back: the balanced division as the definitions have it is best.
+-- The balanced entries' clauses, from what the engine gave back: the balanced division as the definitions have it is best, and
+-- the plan passes its own test.
 -- Assumes nothing.
 use mathlib.Core.Path.{_≡_, refl, sym, _∙_}
 use mathlib.Core.Bool.{true}
 use mathlib.Core.List.{List}
-use Prim.Native.Nat.{ℕ, _*_, _/_, _≤_}
+use Prim.Native.Nat.{ℕ, _*_, _/_}
 use lib.ListN.{length}
 use Rattle.counting.specs.Buffers.{after}
 use Rattle.counting.specs.Sites.{Plan}
 use Rattle.survey.specs.Rows.{value}
-use Rattle.survey.specs.Accepted.{Accepted}
+use Rattle.survey.specs.Refusals.{shareRefusal, surveyRefusal}
 use Rattle.division.specs.Shares.{divisionTotal}
 use Rattle.division.proofs.Counts.{shareSum}
 use Rattle.division.proofs.Best.{divide-in, divide-most, divide-first}
@@ -18,12 +19,13 @@ use Rattle.balanced_results.specs.Plans.{planSites, planDivision}
 use Rattle.balanced_results.proofs.Divided.{for-all}
 use Rattle.balanced_results.proofs.Played.{sites-plan, sites-shareable}
 use Rattle.balanced_results.proofs.Surveyed.{plan-floor}
-use Rattle.refusals.specs.Refusals.{balancedDivisionRefusal, balancedPlanRefusal}
-use Rattle.refusals.proofs.Listed.{list-sites, list-apart, balanced-division-listed, balanced-division-even, balanced-plan-called, balanced-plan-even, balanced-plan-fits}
+use Rattle.refusals.specs.Refusals.{balancedDivisionRefusal, balancedPlanRefusal, balancedHandRefusal}
+use Rattle.refusals.proofs.Listed.{list-sites, list-apart, balanced-division-listed, balanced-division-even, balanced-plan-own, balanced-plan-fits, Called, called, even}
 use Rattle.planner.specs.Plans.{planTotal, sharesFor, balancedDivision, balancedSites, balancedTotal, streetPlace}
 use Rattle.planner.specs.Answers.{Told}
 use Rattle.planner.specs.Good.{BestDivision, GoodBalanced}
 use Rattle.planner.proofs.Laws.{told-total, new-accepted}
+use Rattle.planner.proofs.Passing.{balanced-list-passes}
 
 -- a list that is not refused can be shared
 pub shareable : (n m : ℕ) (scores rows sites division : List ℕ) → balancedDivisionRefusal n m scores rows sites division ≡ 0 → Shareable n m sites
@@ -65,24 +67,39 @@ balanced-division-given n m scores rows sites division r e z given t total d =
     )
 
 -- ---- the balanced plan
-module _ (n m k : ℕ) (scores rows : List ℕ) (ok : Accepted n m scores rows) (some : 1 ≤ k) (few : k ≤ m) (even : k * (n / k) ≡ n) where
+module _ (n m k own : ℕ) (scores rows : List ℕ) (ok : surveyRefusal n m k own scores rows ≡ 0) (divides : shareRefusal n k ≡ 0) where
+  -- the survey is sound, and k is one of 1 to m and divides the streets
+  call : Called n m k scores rows
+  call = called n m k own scores rows ok
+
+  equal : k * (n / k) ≡ n
+  equal = even n k divides
+
   sites : Plan m k (balancedSites n m k scores rows)
-  sites = sites-plan (value m scores rows) (placeKey (streetPlace m rows) m) n m k few even (balancedSites n m k scores rows) refl
+  sites = sites-plan (value m scores rows) (placeKey (streetPlace m rows) m) n m k (call .few) equal (balancedSites n m k scores rows) refl
 
   -- over as many sites as were to be chosen the share is that of the plan
   pub plan-division : balancedDivision n m scores rows (balancedSites n m k scores rows) ≡ planDivision (value m scores rows) n m k rows
   plan-division = rw (sites .size) refl
 
-  can-share : Shareable n m (balancedSites n m k scores rows)
-  can-share = sites-shareable (value m scores rows) (placeKey (streetPlace m rows) m) n m k few even (balancedSites n m k scores rows) refl some
+  -- the division over the sites is the best one
+  best : BestDivision n m scores rows (balancedSites n m k scores rows) (balancedDivision n m scores rows (balancedSites n m k scores rows)) (balancedTotal n m k scores rows)
+  best =
+      best-division n m scores rows (balancedSites n m k scores rows)
+      (sites-shareable (value m scores rows) (placeKey (streetPlace m rows) m) n m k (call .few) equal (balancedSites n m k scores rows) refl (call .some))
+
+  -- the balanced plan passes its own test
+  pub balanced-passes : balancedHandRefusal n m k scores rows (balancedDivision n m scores rows (balancedSites n m k scores rows)) (balancedTotal n m k scores rows) ≡ 0
+  balanced-passes = balanced-list-passes n m k own scores rows (balancedSites n m k scores rows) ok sites divides (best .in-shares)
 
   good-balanced : GoodBalanced n m k scores rows (balancedDivision n m scores rows (balancedSites n m k scores rows)) (balancedSites n m k scores rows)
       (balancedTotal n m k scores rows)
   good-balanced =
       record {
         sites = sites;
-        best = best-division n m scores rows (balancedSites n m k scores rows) can-share;
-        floor = rw plan-division (plan-floor n m k scores rows ok few even);
+        best = best;
+        floor = rw plan-division (plan-floor n m k scores rows (call .survey) (call .few) equal);
+        passes = balanced-passes;
       }
 
 -- what the engine gave for the length of the lent list of sites, as the clauses of the entry
@@ -96,10 +113,9 @@ pub balanced-plan-given : (n m k : ℕ) (scores rows division chosen : List ℕ)
 balanced-plan-given n m k scores rows division chosen r e z given sites t total d c =
     let x : ℕ = balancedPlanRefusal n m k scores rows division chosen in
     let ok : x ≡ 0 = sym e ∙ z in
-    let call = balanced-plan-called n m k scores rows division chosen ok in
-    let even = balanced-plan-even n m k scores rows division chosen ok in
+    let divides : shareRefusal n k ≡ 0 = balanced-plan-own n m k scores rows division chosen ok .0 in
     let size : length chosen ≡ k = balanced-plan-fits n m k scores rows division chosen ok .1 in
-    let same = plan-division n m k scores rows (call .survey) (call .some) (call .few) even in
+    let same = plan-division n m k _ scores rows ok divides in
     let t′ : t ≡ balancedTotal n m k scores rows = rw same (rw size at total) in
     let d′ : given ≡ balancedDivision n m scores rows (balancedSites n m k scores rows) = rw same (rw size at d) in
     let c′ : sites ≡ balancedSites n m k scores rows = rw size at c in (
@@ -108,7 +124,7 @@ balanced-plan-given n m k scores rows division chosen r e z given sites t total 
         new-accepted r x _ division given e z d′,
         (
           new-accepted r x _ chosen sites e z c′,
-          λ y. rw (d′, c′, t′) (good-balanced n m k scores rows (call .survey) (call .some) (call .few) even),
+          λ y. rw (d′, c′, t′) (good-balanced n m k _ scores rows ok divides),
         ),
       ),
     )

@@ -1,4 +1,5 @@
 pub mod Laws
+pub mod Passing
 pub mod Freely
 pub mod Evenly
 pub mod Files

@@ -10,6 +10,7 @@ use Rattle.division.specs.Divide.{First}
 use Rattle.survey.specs.Refusals.{kindRefusal, surveyRefusal}
 use Rattle.survey_file.specs.Encode.{encode}
 use Rattle.survey_file.specs.Decode.{decode, Given, streetsIn, sitesIn, chosenIn, kindIn, scoresIn, scoresPart, rowsIn}
+use Rattle.refusals.specs.Refusals.{freeHandRefusal, balancedHandRefusal}
 use Rattle.planner.specs.Plans.{listTotal, planTotal, sharesFor, planFloor}
 
 -- a free plan of k sites with the total that it reports
@@ -22,6 +23,8 @@ pub record GoodFree (n m k : ℕ) (scores rows division chosen : List ℕ) (repo
   -- no choice of k sites is better by more than the bound says: K ^ K * (T - S) ≤ (K - 1) ^ K * T
   pub bound : (other : List ℕ) → Plan m k other
       → k ^ k * (listTotal n m scores rows other - reported) ≤ (k - 1) ^ k * listTotal n m scores rows other
+  -- the plan passes the test of a free hand plan
+  pub passes : freeHandRefusal n m k scores rows division reported ≡ 0
 
 -- a balanced division over a list of sites with the total that it reports
 pub record BestDivision (n m : ℕ) (scores rows sites division : List ℕ) (reported : ℕ) : Type 0 where
@@ -42,6 +45,8 @@ pub record GoodBalanced (n m k : ℕ) (scores rows division chosen : List ℕ) (
   pub best : BestDivision n m scores rows chosen division reported
   -- the total is at least the floor
   pub floor : planFloor n m k scores rows ≤ reported
+  -- the plan passes the test of a balanced hand plan
+  pub passes : balancedHandRefusal n m k scores rows division reported ≡ 0
 
 -- a survey that was written: the first bytes of the buffer are a file that reading gives back as this very survey
 pub record Written (n m k kind : ℕ) (scores rows file : List ℕ) (size : ℕ) : Type 0 where

@@ -7,7 +7,7 @@ ghost use Rattle.survey.specs.Rows.{rankedPart, scoreOf};
 ghost use lib.ListN.{length};
 ghost use Rattle.counting.specs.Buffers.{after};
 ghost use Rattle.survey_file.specs.Encode.{encode};
-ghost use Rattle.refusals.specs.Refusals.{checkRefusal, rowScoreRefusal, listTotalRefusal, freeDivisionRefusal, balancedDivisionRefusal, freePlanRefusal, balancedPlanRefusal, floorRefusal, writeRefusal, readRefusal};
+ghost use Rattle.refusals.specs.Refusals.{checkRefusal, rowScoreRefusal, listTotalRefusal, freeDivisionRefusal, balancedDivisionRefusal, freePlanRefusal, balancedPlanRefusal, floorRefusal, freeHandRefusal, balancedHandRefusal, writeRefusal, readRefusal};
 ghost use Rattle.planner.specs.Plans.{listTotal, freeDivision, freeSites, planTotal, balancedDivision, balancedSites, balancedTotal, planFloor, fileWritten, rowsRead, scoresRead};
 ghost use Rattle.planner.specs.Good.{GoodFree, BestDivision, GoodBalanced, Written, Filled};
 ghost use Rattle.planner.specs.Answers.{Answered, Told, checkedNumber, checkedAccepts, number, accepts, total, readAnswer};
@@ -169,6 +169,46 @@ pub fn floor(n: usize, m: usize, k: usize, scores: &[u16], rows: &[u8]) -> Answe
         return Answer::Refused(x);
     }
     Answer::Total(floors::floor(n, m, k, scores, rows))
+}
+
+// Tests a hand-made free plan, the site of each street, 0 for none, and the total that is claimed for it; gives this total where it is the plan's. Refuses with 1, 2, 3, 6, 8, 9, 10, 11, 17,
+// 18 or 19.
+pub fn free_hand(
+    n: usize,
+    m: usize,
+    k: usize,
+    scores: &[u16],
+    rows: &[u8],
+    division: &[u8],
+    claimed: u32,
+) -> Answer
+    ensures { λ r. ⌜ Told (number r) (accepts r) (total r) (freeHandRefusal n m k (now (scores .entry)) (now (rows .entry)) (now (division .entry)) claimed) (planTotal m (now (scores .entry)) (now (rows .entry)) (now (division .entry))) ⌝ }
+{
+    let x = hand_plans::free_hand_refusal(n, m, k, scores, rows, division, claimed);
+    if x != 0 {
+        return Answer::Refused(x);
+    }
+    Answer::Total(claimed)
+}
+
+// Tests a hand-made balanced plan, k sites with n / k streets each, and the total that is claimed for it; gives this total where it is the plan's. Refuses with 1, 2, 3, 5, 6, 8, 9, 10, 11,
+// 17, 18 or 19.
+pub fn balanced_hand(
+    n: usize,
+    m: usize,
+    k: usize,
+    scores: &[u16],
+    rows: &[u8],
+    division: &[u8],
+    claimed: u32,
+) -> Answer
+    ensures { λ r. ⌜ Told (number r) (accepts r) (total r) (balancedHandRefusal n m k (now (scores .entry)) (now (rows .entry)) (now (division .entry)) claimed) (planTotal m (now (scores .entry)) (now (rows .entry)) (now (division .entry))) ⌝ }
+{
+    let x = hand_plans::balanced_hand_refusal(n, m, k, scores, rows, division, claimed);
+    if x != 0 {
+        return Answer::Refused(x);
+    }
+    Answer::Total(claimed)
 }
 
 // Writes the survey file into a buffer of any length and returns the file's length; no byte behind it changes. Refuses with 1, 2, 3, 4, 6, 8, 9,

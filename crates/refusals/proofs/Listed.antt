@@ -58,7 +58,7 @@ pub fits : (given due : ℕ) → lengthRefusal given due ≡ 0 → given ≡ due
 fits given due = exact 6 given due (lit< tt)
 
 -- a number of sites that is not refused divides the streets into equal shares
-even : (n k : ℕ) → shareRefusal n k ≡ 0 → k * (n / k) ≡ n
+pub even : (n k : ℕ) → shareRefusal n k ≡ 0 → k * (n / k) ≡ n
 even n k e = omega (arith, exact 5 (n % k) 0 (lit< tt) e, div-add-mod n k)
 
 pub buffers-fit : (n k : ℕ) (division chosen : List ℕ) → buffersRefusal n k division chosen ≡ 0 → (length division ≡ n) × (length chosen ≡ k)
@@ -118,7 +118,7 @@ module _ (n m k : ℕ) (scores rows division chosen : List ℕ) (e : balancedPla
   balanced-plan-called = called n m k _ scores rows e
 
   -- neither 5 nor 6 applies
-  balanced-plan-own : (shareRefusal n k ≡ 0) × (buffersRefusal n k division chosen ≡ 0)
+  pub balanced-plan-own : (shareRefusal n k ≡ 0) × (buffersRefusal n k division chosen ≡ 0)
   balanced-plan-own = or-zero (shareRefusal n k) (buffersRefusal n k division chosen) (own-accepted n m k _ scores rows e)
 
   -- its sites have equal shares, which make up all streets

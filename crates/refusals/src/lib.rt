@@ -9,7 +9,7 @@ ghost use Rattle.survey.specs.Refusals.{shareRefusal, lengthRefusal, surveyRefu
 ghost use Rattle.refusals.specs.Refusals.{rangeRefusal, rowScoreRefusal, rangesRefusal, twiceRefusal, listRefusal, listTotalRefusal, freeDivisionRefusal, balancedDivisionRefusal, buffersRefusal, freePlanRefusal, balancedPlanRefusal, floorRefusal};
 
 // 6: a lent buffer of other than its exact length.
-fn length_refusal(given: usize, due: usize) -> u8
+pub fn length_refusal(given: usize, due: usize) -> u8
     ensures { λ r. ⌜ r ≡ lengthRefusal given due ⌝ }
 {
     if given != due {
@@ -162,7 +162,7 @@ fn share_refusal(n: usize, k: usize) -> u8
 }
 
 // What a balanced division is tried for besides: 5, then 6 for its buffer.
-fn balance_refusal(n: usize, k: usize, given: usize) -> u8
+pub fn balance_refusal(n: usize, k: usize, given: usize) -> u8
     ensures { λ r. ⌜ r ≡ shareRefusal n k orElse lengthRefusal given n ⌝ }
 {
     let r = share_refusal(n, k);

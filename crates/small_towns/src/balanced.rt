@@ -1,105 +1,105 @@
-// The balanced division of a small town, compared with the one that the search finds.
+// The balanced entries, compared with a search of all divisions. Where k doesn't divide the streets, they have to refuse.
 use crate::answers;
 use crate::answers::Given;
-use crate::brute;
-use crate::say;
-use crate::towns::STREETS;
-use crate::towns::Town;
-use planner::Answer;
+use crate::answers::UNTOUCHED;
+use crate::entries;
+use drawn_towns::SITES;
+use drawn_towns::Town;
+use plain_search::divisions;
+use plain_search::floors;
+use plain_search::rounds;
+ghost use mathlib.Core.Path.{_≡_};
 ghost use Prim.Native.Nat.{_≤_};
-ghost use Rattle.small_towns.specs.Small.{Small};
+ghost use lib.ListN.{length};
+ghost use Rattle.drawn_towns.specs.Small.{Small};
 
-// what stands in a division before the call
-const UNTOUCHED: u8 = 255;
-
-// The entry, which is called here alone.
-fn entry(
-    n: usize,
-    m: usize,
-    scores: &[u16],
-    rows: &[u8],
-    sites: &[u8],
-    division: &mut [u8],
-) -> Answer {
-    planner::balanced_division(n, m, scores, rows, sites, division)
-}
-
-// What the entry gives for a town and its first k sites.
-fn divide(town: Town, k: usize) -> Given
-    requires { ⌜ Small town × (k ≤ 5) ⌝ }
+// Whether k divides the streets.
+pub fn is_even(town: Town) -> bool
+    requires { ⌜ Small town ⌝ }
 {
-    let n = town.n;
-    let m = town.m;
-    let len = town.len;
-    let scores = town.scores;
-    let rows = town.rows;
-    let sites = town.sites;
-    let mut division = [UNTOUCHED; STREETS];
-    let answer = entry(
-        n,
-        m,
-        &scores[..m],
-        &rows[..len],
-        &sites[..k],
-        &mut division[..n],
-    );
-    answers::told(answer, division)
+    town.n % town.k == 0
 }
 
-// 1 where the entry doesn't give what is right for a town and its first k sites, else 0. What is wrong is printed if it is to be shown, and
-// then what is right.
-fn wrong_answer(town: Town, k: usize, right: Given, shown: bool) -> u64
-    requires { ⌜ Small town × (k ≤ 5) ⌝ }
-    ensures { λ r. ⌜ r ≤ 1 ⌝ }
+// The best division over the town's list, with what stands among the chosen sites.
+fn best(town: Town, chosen: [u8; SITES]) -> Given
+    requires { ⌜ Small town ⌝ }
 {
-    let n = town.n;
-    let given = divide(town, k);
-    if answers::is_right(given, right, n) {
-        return 0;
+    let found = divisions::best_division(town);
+    let division = found.division;
+    Given {
+        total: found.total,
+        refused: 0,
+        division,
+        chosen,
     }
-    if shown {
-        say::town_lines(town, k);
-        answers::given_lines(b"given total ", given, n);
-        answers::given_lines(b"right total ", right, n);
-    }
-    1
 }
 
-// 1 where the entry doesn't give a town the division that the search finds, else 0.
+// The division that is right for the town's list.
+fn right_division(town: Town) -> Given
+    requires { ⌜ Small town ⌝ }
+{
+    if !is_even(town) {
+        return answers::plain(0, 5);
+    }
+    best(town, [UNTOUCHED; SITES])
+}
+
+// The plan that is right for the town: the sites of the rounds, and the best division over them.
+fn right_plan(town: Town) -> Given
+    requires { ⌜ Small town ⌝ }
+{
+    if !is_even(town) {
+        return answers::plain(0, 5);
+    }
+    let chosen = rounds::sites(town);
+    best(drawn_towns::listing(town, chosen, town.k), chosen)
+}
+
+// The floor that is right for the town.
+fn right_floor(town: Town) -> Given
+    requires { ⌜ Small town ⌝ }
+{
+    if !is_even(town) {
+        return answers::plain(0, 5);
+    }
+    answers::plain(floors::floor(town), 0)
+}
+
+// 1 where the division over the town's list is not right, else 0.
 pub fn wrong_division(town: Town, shown: bool) -> u64
     requires { ⌜ Small town ⌝ }
     ensures { λ r. ⌜ r ≤ 1 ⌝ }
 {
-    let best = brute::best_division(town);
-    let division = best.division;
-    let right = Given {
-        total: best.total,
-        refused: 0,
-        division,
-    };
-    wrong_answer(town, town.k, right, shown)
+    answers::wrong(
+        town,
+        entries::division(town, true),
+        right_division(town),
+        shown,
+    )
 }
 
-// Whether the town has a site that is not on its list, and with it the length of the list doesn't divide the streets.
-pub fn is_uneven(town: Town) -> bool
-    requires { ⌜ Small town ⌝ }
-{
-    let k = town.k + 1;
-    if town.m < k {
-        return false;
-    }
-    town.n % k != 0
-}
-
-// 1 where the entry doesn't refuse the list with that site, or doesn't leave the division as it was, else 0.
-pub fn wrong_refusal(town: Town, shown: bool) -> u64
+// 1 where the plan is not right, else 0.
+pub fn wrong_plan(town: Town, shown: bool) -> u64
     requires { ⌜ Small town ⌝ }
     ensures { λ r. ⌜ r ≤ 1 ⌝ }
 {
-    let right = Given {
-        total: 0,
-        refused: 5,
-        division: [UNTOUCHED; STREETS],
-    };
-    wrong_answer(town, town.k + 1, right, shown)
+    answers::wrong(town, entries::plan(town, true), right_plan(town), shown)
+}
+
+// 1 where the floor is not right, else 0.
+pub fn wrong_floor(town: Town, shown: bool) -> u64
+    requires { ⌜ Small town ⌝ }
+    ensures { λ r. ⌜ r ≤ 1 ⌝ }
+{
+    answers::wrong(town, entries::floor(town), right_floor(town), shown)
+}
+
+// 1 where the plan totals less than the floor, else 0.
+pub fn wrong_bound(town: Town, shown: bool) -> u64
+    requires { ⌜ Small town ⌝ }
+    ensures { λ r. ⌜ r ≤ 1 ⌝ }
+{
+    let plan = entries::plan(town, true);
+    let floor = entries::floor(town);
+    answers::fails(town, floor.total <= plan.total, shown)
 }

@@ -1,40 +1,97 @@
-// Draws small towns, compares what the library answers for each with what a search of all that is possible finds, and prints how many were
-// tried and how many answers were different. The first of these are printed in full.
-use towns::Town;
+// Draws small towns, compares what every entry of the library answers for each with what a plain search finds, and prints how much was tried
+// and how many answers were different. The first of these are printed in full.
+use drawn_towns::Town;
+ghost use mathlib.Core.Path.{_≡_};
 ghost use Prim.Native.Nat.{_+_, _≤_};
-ghost use Rattle.small_towns.specs.Small.{Small};
+ghost use Rattle.drawn_towns.specs.Small.{Small};
 
 mod answers;
 mod balanced;
-mod brute;
+mod entries;
+mod files;
+mod free;
+mod hands;
+mod rows;
 mod say;
-mod towns;
+mod surveys;
 
 // how many towns are tried, and how many wrong answers are printed
-const TOWNS: u64 = 10000;
+const TOWNS: u64 = 3000;
 
 const SHOWN: u64 = 3;
 
-// What a run counts: the lists that don't divide the streets, which have to be refused, and the wrong answers.
+// how many answers are compared for each number of sites to choose, and for each row
+const ANSWERS: u64 = 24;
+
+const ROW_ANSWERS: u64 = 8;
+
+// What a run counts: the numbers of sites to choose, those of them that don't divide the streets, the answers compared, and the wrong ones.
 struct Counts {
+    choices: u64,
     uneven: u64,
+    compared: u64,
     differences: u64,
 }
 
+// How many answers to the plans of a town's k sites, and to its list, are wrong.
+fn wrong_plans(town: Town, shown: bool) -> u64
+    requires { ⌜ Small town ⌝ }
+    ensures { λ r. ⌜ r ≤ 8 ⌝ }
+{
+    let mut count = free::wrong_plan(town, shown);
+    count = count + free::wrong_bound(town, shown);
+    count = count + free::wrong_division(town, shown);
+    count = count + free::wrong_total(town, shown);
+    count = count + balanced::wrong_plan(town, shown);
+    count = count + balanced::wrong_bound(town, shown);
+    count = count + balanced::wrong_division(town, shown);
+    count + balanced::wrong_floor(town, shown)
+}
+
+// How many answers about hand-made plans, and about damaged surveys and files of the town are wrong.
+fn wrong_others(seed: &mut u64, town: Town, shown: bool) -> u64
+    requires { ⌜ Small town ⌝ }
+    ensures { λ r. ⌜ r ≤ 16 ⌝ }
+{
+    let mut count = hands::wrong_hands(seed, town, false, shown);
+    count = count + hands::wrong_hands(seed, town, true, shown);
+    count = count + surveys::wrong_scores(seed, town, shown);
+    count = count + surveys::wrong_rows(seed, town, shown);
+    count + files::wrong_files(seed, town, shown)
+}
+
 impl Counts {
-    // The counts with one town more.
-    fn with(mut self, town: Town) -> Self
+    // The counts with one number of sites to choose more.
+    fn with_choice(mut self, seed: &mut u64, town: Town) -> Self
         requires { ⌜ Small town ⌝ }
-        requires { ⌜ (self .uneven ≤ 1000000) × (self .differences ≤ 1000000) ⌝ }
-        ensures { λ r. ⌜ (r .uneven ≤ self .uneven + 1) × (r .differences ≤ self .differences + 2) ⌝ }
+        requires { ⌜ (self .choices ≤ 1000000) × (self .uneven ≤ self .choices) × (self .compared ≤ 1000000) × (self .differences ≤ 1000000) ⌝ }
+        ensures { λ r. ⌜ (r .choices ≡ self .choices + 1) × (r .uneven ≤ r .choices) × (r .compared ≤ self .compared + 24) × (r .differences ≤ self .differences + 24) ⌝ }
     {
         let shown = self.differences < SHOWN;
-        self.differences = self.differences + balanced::wrong_division(town, shown);
-        if !balanced::is_uneven(town) {
+        self.differences = self.differences + wrong_plans(town, shown);
+        self.differences = self.differences + wrong_others(seed, town, shown);
+        self.compared = self.compared + ANSWERS;
+        self.choices = self.choices + 1;
+        if balanced::is_even(town) {
             return self;
         }
         self.uneven = self.uneven + 1;
-        self.differences = self.differences + balanced::wrong_refusal(town, shown);
+        self
+    }
+
+    // The counts with one town more, and every number of sites to choose.
+    fn with_town(mut self, seed: &mut u64, town: Town) -> Self
+        requires { ⌜ Small town ⌝ }
+        requires { ⌜ (self .choices ≤ 100000) × (self .uneven ≤ self .choices) × (self .compared ≤ 900000) × (self .differences ≤ 900000) ⌝ }
+        ensures { λ r. ⌜ (r .choices ≤ self .choices + 5) × (r .uneven ≤ r .choices) × (r .compared ≤ self .compared + 184) × (r .differences ≤ self .differences + 184) ⌝ }
+    {
+        let shown = self.differences < SHOWN;
+        self.differences = self.differences + rows::wrong_rows(town, shown);
+        self.compared = self.compared + ROW_ANSWERS * town.n as u64;
+        let sites = town.sites;
+        for i in 0..town.m {
+            self = self.with_choice(seed, drawn_towns::listing(town, sites, i + 1));
+        }
         self
     }
 }
@@ -43,11 +100,14 @@ impl Counts {
 fn run() -> Counts {
     let mut seed: u64 = 1;
     let mut counts = Counts {
+        choices: 0,
         uneven: 0,
+        compared: 0,
         differences: 0,
     };
     for i in 0..TOWNS {
-        counts = counts.with(towns::draw_town(&mut seed));
+        let town = drawn_towns::draw_town(&mut seed);
+        counts = counts.with_town(&mut seed, town);
     }
     counts
 }
@@ -55,7 +115,9 @@ fn run() -> Counts {
 // Runs all towns and prints the counts.
 fn main() {
     let counts = run();
-    say::line(b"balanced divisions ", TOWNS);
-    say::line(b"uneven lists ", counts.uneven);
+    say::line(b"towns ", TOWNS);
+    say::line(b"numbers of sites to choose ", counts.choices);
+    say::line(b"of these, not dividing the streets ", counts.uneven);
+    say::line(b"answers compared ", counts.compared);
     say::line(b"differences ", counts.differences);
 }

@@ -1,9 +1,9 @@
 // What the program prints.
-use crate::towns::Town;
+use drawn_towns::Town;
 use libc::STDOUT_FILENO;
 ghost use Prim.Native.Nat.{_≤_};
 ghost use lib.ListN.{length};
-ghost use Rattle.small_towns.specs.Small.{Small};
+ghost use Rattle.drawn_towns.specs.Small.{Small};
 
 // A word and a number.
 fn say(word: &[u8], x: u64) {

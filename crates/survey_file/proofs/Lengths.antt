@@ -2,13 +2,13 @@
 -- Assumes nothing.
 use mathlib.Core.Path.{_≡_, refl, ap, _∙_}
 use mathlib.Core.List.{List, _++_}
-use Prim.Native.Nat.{ℕ, zero, suc, _+_, _*_, _≤_, _<_}
+use Prim.Native.Nat.{ℕ, _+_, _*_, _≤_, _<_}
 use native.Mathlib.Omega.{arith}
 use lib.ListN.{length, length-append}
 use Rattle.counting.specs.Words.{sumOf}
 use Rattle.counting.specs.Lists.{at}
 use Rattle.counting.specs.Buffers.{joined}
-use Rattle.counting.proofs.Sums.{sumOf-same, sumOf-even}
+use Rattle.counting.proofs.Sums.{sumOf-same, sumOf-le, sumOf-even}
 use Rattle.survey.specs.Rows.{listOfStreet}
 use Rattle.survey.specs.Refusals.{mostStreets, mostSites}
 use Rattle.survey.specs.Accepted.{Accepted}
@@ -22,8 +22,7 @@ mostBytes = 27739
 
 -- n numbers, none above x, come to no more than n times x
 sumOf-most : (n x : ℕ) (f : ℕ → ℕ) → ((i : ℕ) → i < n → f i ≤ x) → sumOf n f ≤ n * x
-sumOf-most zero x f h = omega arith
-sumOf-most (suc n) x f h = omega (arith, h n (omega arith), sumOf-most n x f (λ i l. h i (omega arith)))
+sumOf-most n x f h = omega (arith, sumOf-le n f (λ i. x) h, sumOf-even n x)
 
 module _ (n m k kind : ℕ) (scores rows : List ℕ) where
   -- the bytes of the record of the street i

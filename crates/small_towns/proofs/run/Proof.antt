@@ -1,14 +1,14 @@
--- `small_towns::run` meets its contract. The loop's invariant: each town adds at most one uneven list and two differences. Assumes nothing.
+-- `small_towns::run` meets its contract. Assumes nothing.
 use borrow.Author.Needs.{needs}
 use Prim.Native.Nat.{_≤_, _*_, _-_}
 use Rattle.small_towns.proofs.run.Statement.{statement}
 use Rattle.small_towns.proofs.run.Tie as tie
 
 abbrev Inv-loop : tie.InvT-loop
-Inv-loop seed₀ counts₀ i₀ seed counts i = (i ≤ 10000) × (counts .uneven ≤ i) × (counts .differences ≤ 2 * i)
+Inv-loop seed₀ counts₀ i₀ seed counts i = (i ≤ 3000) × (counts .choices ≤ 5 * i) × (counts .uneven ≤ counts .choices) × (counts .compared ≤ 184 * i) × (counts .differences ≤ 184 * i)
 
 abbrev μ-loop : tie.MeasureT-loop
-μ-loop seed₀ counts₀ i₀ seed counts i = 10000 - i
+μ-loop seed₀ counts₀ i₀ seed counts i = 3000 - i
 
 loop-holds : tie.Need-loop-holds Inv-loop μ-loop
 loop-holds c = search needs
@@ -16,8 +16,8 @@ loop-holds c = search needs
 draw-town-requires : tie.Need-draw-town-requires Inv-loop μ-loop
 draw-town-requires c κs = search needs
 
-with-requires : tie.Need-with-requires Inv-loop μ-loop
-with-requires c κs = search needs
+with-town-requires : tie.Need-with-town-requires Inv-loop μ-loop
+with-town-requires c κs = search needs
 
 add-i : tie.Need-add-i Inv-loop μ-loop
 add-i c = search needs
@@ -39,7 +39,7 @@ run-spec =
     μ-loop
     loop-holds
     draw-town-requires
-    with-requires
+    with-town-requires
     add-i
     loop-less
     loop-again

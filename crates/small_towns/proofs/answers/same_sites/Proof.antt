@@ -1,4 +1,4 @@
--- `small_towns::answers::same_sites` meets its contract. The loop's invariant: `s` is at most the number of streets. Assumes nothing.
+-- `small_towns::answers::same_sites` meets its contract. Assumes nothing.
 use borrow.Author.Needs.{needs}
 use Prim.Native.Nat.{_≤_, _-_}
 use Rattle.small_towns.proofs.answers.same_sites.Statement.{statement}

@@ -1,0 +1,77 @@
+-- `hand_plans::count_streets` meets its contract. Assumes nothing.
+use borrow.Author.Needs.{needs}
+use Rattle.hand_plans.proofs.Tallies.{counted-none, counted-room, counted-more, counted-all}
+use Rattle.hand_plans.specs.Counts.{Counted}
+use lib.ListN.{length, take}
+use native.Mathlib.Omega.{arith}
+use Prim.Native.Nat.{_≤_, _-_}
+use mathlib.Core.Path.{_≡_, refl}
+use Rattle.hand_plans.proofs.count_streets.Statement.{statement}
+use Rattle.hand_plans.proofs.count_streets.Tie as tie
+
+abbrev Inv-loop : tie.InvT-loop
+Inv-loop division counts₀ s₀ s-end counts s = (s ≤ s-end) × (s-end ≡ length division) × Counted counts (take s division)
+
+abbrev μ-loop : tie.MeasureT-loop
+μ-loop division counts₀ s₀ s-end counts s = s-end - s
+
+loop-holds : tie.Need-loop-holds Inv-loop μ-loop
+loop-holds c = (search needs, refl, counted-none)
+
+shared-slice-read-a : tie.Need-shared-slice-read-a Inv-loop μ-loop
+shared-slice-read-a c = search needs
+
+cast-a : tie.Need-cast-a Inv-loop μ-loop
+cast-a c = omega (arith, c .shared-slice-known .given (c .before .before .loop .s))
+
+mul-counts : tie.Need-mul-counts Inv-loop μ-loop
+mul-counts c = omega (arith, c .shared-slice-known .given (c .before .before .loop .s))
+
+array-read-counts : tie.Need-array-read-counts Inv-loop μ-loop
+array-read-counts c = omega (arith, c .shared-slice-known .given (c .before .before .loop .s))
+
+add-counts : tie.Need-add-counts Inv-loop μ-loop
+add-counts c =
+    let l = c .before .before .loop in
+    let given = c .shared-slice-known .given (l .s) in
+    omega (arith, counted-room (l .counts) (c .before .before .before .args .division .now) (l .s) (omega arith) (omega (arith, given)) (l .inv .2))
+
+mul-counts-2 : tie.Need-mul-counts-2 Inv-loop μ-loop
+mul-counts-2 c = omega (arith, c .shared-slice-known .given (c .before .before .loop .s))
+
+array-write-counts : tie.Need-array-write-counts Inv-loop μ-loop
+array-write-counts c = omega (arith, c .shared-slice-known .given (c .before .before .loop .s))
+
+add-s : tie.Need-add-s Inv-loop μ-loop
+add-s c = search needs
+
+loop-less : tie.Need-loop-less Inv-loop μ-loop
+loop-less c = search needs
+
+loop-again : tie.Need-loop-again Inv-loop μ-loop
+loop-again c =
+    let l = c .before .before .loop in
+    let given = c .shared-slice-known .given (l .s) in
+    (omega arith, refl, counted-more (l .counts) (c .before .before .before .args .division .now) (l .s) (omega arith) (omega (arith, given)) (l .inv .2))
+
+returns : tie.Need-returns Inv-loop μ-loop
+returns c = let l = c .before .loop in counted-all (l .counts) _ (l .s) (omega arith) (l .inv .2)
+
+pub count-streets-spec : {M : Type 1} → statement M
+count-streets-spec =
+    tie.close
+    (tie.spec
+    Inv-loop
+    μ-loop
+    loop-holds
+    shared-slice-read-a
+    cast-a
+    mul-counts
+    array-read-counts
+    add-counts
+    mul-counts-2
+    array-write-counts
+    add-s
+    loop-less
+    loop-again
+    returns)

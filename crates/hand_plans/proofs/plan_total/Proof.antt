@@ -1,0 +1,67 @@
+-- `hand_plans::plan_total` meets its contract. Assumes nothing.
+use borrow.Author.Needs.{needs}
+use Rattle.hand_plans.proofs.Tallies.{total-none, total-more, total-all}
+use Rattle.division.specs.Shares.{divisionTotal}
+use Rattle.survey.specs.Rows.{value}
+use Rattle.counting.proofs.Tables.{row-within}
+use lib.ListN.{length, take}
+use native.Mathlib.Omega.{arith}
+use Prim.Native.Nat.{_≤_, _-_, _*_}
+use mathlib.Core.Path.{_≡_, refl}
+use Rattle.hand_plans.proofs.plan_total.Statement.{statement}
+use Rattle.hand_plans.proofs.plan_total.Tie as tie
+
+abbrev Inv-loop : tie.InvT-loop
+Inv-loop m scores rows division total₀ s₀ s-end total s = (s ≤ s-end) × (s-end ≡ length division) × (total ≡ divisionTotal (value m scores rows) (take s division)) × (total ≤ s * 65535)
+
+abbrev μ-loop : tie.MeasureT-loop
+μ-loop m scores rows division total₀ s₀ s-end total s = s-end - s
+
+loop-holds : tie.Need-loop-holds Inv-loop μ-loop
+loop-holds c = (search needs, refl, total-none _, search needs)
+
+shared-slice-read-street-score : tie.Need-shared-slice-read-street-score Inv-loop μ-loop
+shared-slice-read-street-score c = search needs
+
+street-score-requires : tie.Need-street-score-requires Inv-loop μ-loop
+street-score-requires c κs =
+    let s = c .before .before in
+    let p = s .before .before .before .before in
+    omega (arith, row-within (length (p .args .division .now)) (p .args .m) (s .loop .s) (omega arith), p .pre .0)
+
+cast-total : tie.Need-cast-total Inv-loop μ-loop
+cast-total c = search needs
+
+add-total : tie.Need-add-total Inv-loop μ-loop
+add-total c = search needs
+
+add-s : tie.Need-add-s Inv-loop μ-loop
+add-s c = search needs
+
+loop-less : tie.Need-loop-less Inv-loop μ-loop
+loop-less c = search needs
+
+loop-again : tie.Need-loop-again Inv-loop μ-loop
+loop-again c =
+    let l = c .before .before .before .loop in
+    let a = c .before .before .before .before .before .before .before .args in
+    (omega arith, refl, total-more (value (a .m) (a .scores .now) (a .rows .now)) (a .division .now) (l .s) (l .total) _ (omega arith) (l .inv .2) (c .street-score .ensures), omega arith)
+
+returns : tie.Need-returns Inv-loop μ-loop
+returns c = let l = c .before .loop in total-all _ _ (l .s) (l .total) (omega arith) (l .inv .2)
+
+pub plan-total-spec : {M : Type 1} → statement M
+plan-total-spec =
+    tie.close
+    (tie.spec
+    Inv-loop
+    μ-loop
+    loop-holds
+    shared-slice-read-street-score
+    street-score-requires
+    cast-total
+    add-total
+    add-s
+    loop-less
+    loop-again
+    returns)

@@ -1,0 +1,169 @@
+// The test of a hand-made plan: the number of document 01 that turns it down, and 0 where it passes.
+use survey::check;
+ghost use mathlib.Core.Path.{_≡_};
+ghost use Prim.Native.Nat.{_+_, _*_, _≤_, suc};
+ghost use lib.Dec.{ltb, eqb};
+ghost use lib.ListN.{length};
+ghost use Rattle.counting.specs.Words.{_when_, _unless_, one, countOf};
+ghost use Rattle.counting.specs.Lists.{at};
+ghost use Rattle.survey.specs.Rows.{value};
+ghost use Rattle.division.specs.Shares.{divisionTotal};
+ghost use Rattle.refusals.specs.Refusals.{sitesWith, claimRefusal, freeHandRefusal, balancedHandRefusal};
+ghost use Rattle.hand_plans.specs.Counts.{between, Counted};
+
+// How many streets each site has, and how many have none, in one pass over the division.
+fn count_streets(division: &[u8]) -> [usize; 256]
+    ensures { λ r. ⌜ Counted r (now (division .entry)) ⌝ }
+{
+    let mut counts = [0usize; 256];
+    for s in 0..division.len() {
+        let a = division[s] as usize;
+        counts[a] = counts[a] + 1;
+    }
+    counts
+}
+
+// 1 for a site with a number of streets within the bounds, else 0.
+fn one_within(streets: usize, least: usize, most: usize) -> usize
+    ensures { λ r. ⌜ r ≡ one (between least most streets) ⌝ }
+{
+    if streets < least {
+        return 0;
+    }
+    if most < streets {
+        return 0;
+    }
+    1
+}
+
+// The sites of 1 to m whose numbers of streets are within the bounds.
+fn count_sites(counts: &[usize; 256], m: usize, least: usize, most: usize) -> usize
+    requires { ⌜ m ≤ 64 ⌝ }
+    ensures { λ r. ⌜ r ≡ countOf m (λ a. between least most (at (now (counts .entry)) (suc a))) ⌝ }
+{
+    let mut sites: usize = 0;
+    for a in 0..m {
+        sites = sites + one_within(counts[a + 1], least, most);
+    }
+    sites
+}
+
+// The same of a division, whose streets are counted once.
+fn sites_within(division: &[u8], m: usize, least: usize, most: usize) -> usize
+    requires { ⌜ m ≤ 64 ⌝ }
+    ensures { λ r. ⌜ r ≡ sitesWith (between least most) m (now (division .entry)) ⌝ }
+{
+    let counts = count_streets(division);
+    count_sites(&counts, m, least, most)
+}
+
+// 18 of a free plan: more than k sites are used. No site has more than all streets, so those with 1 street up to all are the used ones.
+fn used_refusal(division: &[u8], m: usize, k: usize) -> u8
+    requires { ⌜ m ≤ 64 ⌝ }
+    ensures { λ r. ⌜ r ≡ 18 when ltb k (sitesWith (ltb 0) m (now (division .entry))) ⌝ }
+{
+    if k < sites_within(division, m, 1, division.len()) {
+        return 18;
+    }
+    0
+}
+
+// 18 of a balanced plan: not exactly k sites have their share.
+fn shared_refusal(division: &[u8], m: usize, k: usize, share: usize) -> u8
+    requires { ⌜ m ≤ 64 ⌝ }
+    ensures { λ r. ⌜ r ≡ 18 unless eqb (sitesWith (eqb share) m (now (division .entry))) k ⌝ }
+{
+    if sites_within(division, m, share, share) != k {
+        return 18;
+    }
+    0
+}
+
+// The score that the street s gives a site.
+fn street_score(m: usize, scores: &[u16], rows: &[u8], s: usize, site: u8) -> u16
+    requires { ⌜ s * m + m ≤ length (now rows) ⌝ }
+    ensures { λ r. ⌜ r ≡ value m (now (scores .entry)) (now (rows .entry)) s site ⌝ }
+{
+    let from = s * m;
+    let to = from + m;
+    survey::rows::score(scores, &rows[from..to], site)
+}
+
+// The plan's total: the sum over the streets of the score that each gives its site, 0 for site 0.
+fn plan_total(m: usize, scores: &[u16], rows: &[u8], division: &[u8]) -> u32
+    requires { ⌜ (length (now rows) ≡ length (now division) * m) × (length (now division) ≤ 400) ⌝ }
+    ensures { λ r. ⌜ r ≡ divisionTotal (value m (now (scores .entry)) (now (rows .entry))) (now (division .entry)) ⌝ }
+{
+    let mut total: u32 = 0;
+    for s in 0..division.len() {
+        total = total + street_score(m, scores, rows, s, division[s]) as u32;
+    }
+    total
+}
+
+// 19: the claimed total is not the plan's.
+fn claim_refusal(m: usize, scores: &[u16], rows: &[u8], division: &[u8], claimed: u32) -> u8
+    requires { ⌜ (length (now rows) ≡ length (now division) * m) × (length (now division) ≤ 400) ⌝ }
+    ensures { λ r. ⌜ r ≡ claimRefusal m (now (scores .entry)) (now (rows .entry)) (now (division .entry)) claimed ⌝ }
+{
+    if claimed != plan_total(m, scores, rows, division) {
+        return 19;
+    }
+    0
+}
+
+// A free hand plan: a street may go to site 0, and at most k sites are used.
+pub fn free_hand_refusal(
+    n: usize,
+    m: usize,
+    k: usize,
+    scores: &[u16],
+    rows: &[u8],
+    division: &[u8],
+    claimed: u32,
+) -> u8
+    ensures { λ r. ⌜ r ≡ freeHandRefusal n m k (now (scores .entry)) (now (rows .entry)) (now (division .entry)) claimed ⌝ }
+{
+    let own = refusals::length_refusal(division.len(), n);
+    let r = check::survey_refusal(n, m, k, own, scores, rows);
+    if r != 0 {
+        return r;
+    }
+    let r = refusals::ranges_refusal(0, m, division);
+    if r != 0 {
+        return r;
+    }
+    let r = used_refusal(division, m, k);
+    if r != 0 {
+        return r;
+    }
+    claim_refusal(m, scores, rows, division, claimed)
+}
+
+// A balanced hand plan: every street goes to a site, and k sites have the same share of the streets.
+pub fn balanced_hand_refusal(
+    n: usize,
+    m: usize,
+    k: usize,
+    scores: &[u16],
+    rows: &[u8],
+    division: &[u8],
+    claimed: u32,
+) -> u8
+    ensures { λ r. ⌜ r ≡ balancedHandRefusal n m k (now (scores .entry)) (now (rows .entry)) (now (division .entry)) claimed ⌝ }
+{
+    let own = refusals::balance_refusal(n, k, division.len());
+    let r = check::survey_refusal(n, m, k, own, scores, rows);
+    if r != 0 {
+        return r;
+    }
+    let r = refusals::ranges_refusal(1, m, division);
+    if r != 0 {
+        return r;
+    }
+    let r = shared_refusal(division, m, k, n / k);
+    if r != 0 {
+        return r;
+    }
+    claim_refusal(m, scores, rows, division, claimed)
+}

@@ -1,0 +1,82 @@
+// The floor of a small town.
+use crate::scores;
+use crate::sets;
+use drawn_towns::STREETS;
+use drawn_towns::Town;
+ghost use Prim.Native.Nat.{_≤_};
+ghost use Rattle.drawn_towns.specs.Small.{Small};
+
+// The lesser of two numbers.
+fn lesser(x: usize, y: usize) -> usize
+    ensures { λ r. ⌜ r ≤ x ⌝ }
+{
+    if y < x {
+        return y;
+    }
+    x
+}
+
+// The length of the shortest list.
+fn shortest(town: Town) -> usize
+    requires { ⌜ Small town ⌝ }
+    ensures { λ r. ⌜ r ≤ town .m ⌝ }
+{
+    let mut least = town.m;
+    for s in 0..town.n {
+        least = lesser(least, scores::list_length(town, s));
+    }
+    least
+}
+
+// The place that round i counts on: i, and how often the rounds left go into the sites left, the last time perhaps not whole.
+fn place(town: Town, i: usize) -> usize
+    requires { ⌜ Small town × (i ≤ 5) ⌝ }
+{
+    if town.k <= i {
+        return 0;
+    }
+    let mut count: usize = 0;
+    let mut sites: usize = i;
+    for turn in 0..town.m {
+        count = scores::add_if(count, sites < town.m);
+        sites = sites + (town.k - i);
+    }
+    i + count
+}
+
+// A score as a part of a total.
+fn wide(score: u16) -> u32
+    ensures { λ r. ⌜ r ≤ 65535 ⌝ }
+{
+    score as u32
+}
+
+// The score at a place, and 0 where the place is none of the first t.
+fn score_up_to(town: Town, place: usize, t: usize) -> u32
+    requires { ⌜ Small town × (t ≤ town .m) ⌝ }
+    ensures { λ r. ⌜ r ≤ 65535 ⌝ }
+{
+    if place == 0 {
+        return 0;
+    }
+    if t < place {
+        return 0;
+    }
+    wide(town.scores[place - 1])
+}
+
+// What a share of streets gives at the least, summed over the rounds.
+pub fn floor(town: Town) -> u32
+    requires { ⌜ Small town ⌝ }
+{
+    let t = shortest(town);
+    let share = town.n / town.k;
+    let mut sum: u32 = 0;
+    for i in 0..town.k {
+        sum = sum + score_up_to(town, place(town, i), t);
+    }
+    if STREETS < share {
+        return 0;
+    }
+    sets::times(share as u64, sum) as u32
+}

@@ -1,0 +1,82 @@
+// What a hand-made plan of a small town is refused for, and 0 where it is right.
+use crate::scores;
+use drawn_towns::STREETS;
+use drawn_towns::Town;
+ghost use Prim.Native.Nat.{_≤_};
+ghost use Rattle.drawn_towns.specs.Small.{Small};
+
+// Whether some street has a site outside a range that ends with m.
+fn is_out_of_range(town: Town, division: [u8; STREETS], low: u8) -> bool
+    requires { ⌜ Small town ⌝ }
+{
+    for s in 0..town.n {
+        if division[s] < low {
+            return true;
+        }
+        if town.m < division[s] as usize {
+            return true;
+        }
+    }
+    false
+}
+
+// Whether a number lies from one to another.
+fn is_between(x: usize, least: usize, most: usize) -> bool {
+    if x < least {
+        return false;
+    }
+    x <= most
+}
+
+// How many sites have from `least` to `most` streets.
+fn sites_with(town: Town, division: [u8; STREETS], least: usize, most: usize) -> usize
+    requires { ⌜ Small town ⌝ }
+{
+    let mut count: usize = 0;
+    for i in 0..town.m {
+        let streets = scores::streets_of(division, town.n, (i + 1) as u8);
+        count = scores::add_if(count, is_between(streets, least, most));
+    }
+    count
+}
+
+// 19: the claimed total is another one.
+fn claim_refusal(town: Town, division: [u8; STREETS], claimed: u32) -> u8
+    requires { ⌜ Small town ⌝ }
+{
+    if scores::total(town, division) == claimed {
+        0
+    } else {
+        19
+    }
+}
+
+// A free plan.
+pub fn free_refusal(town: Town, division: [u8; STREETS], claimed: u32) -> u8
+    requires { ⌜ Small town ⌝ }
+{
+    if is_out_of_range(town, division, 0) {
+        return 17;
+    }
+    if town.k < sites_with(town, division, 1, STREETS) {
+        return 18;
+    }
+    claim_refusal(town, division, claimed)
+}
+
+// A balanced plan.
+pub fn balanced_refusal(town: Town, division: [u8; STREETS], claimed: u32) -> u8
+    requires { ⌜ Small town ⌝ }
+{
+    if town.n % town.k != 0 {
+        return 5;
+    }
+    if is_out_of_range(town, division, 1) {
+        return 17;
+    }
+    let share = town.n / town.k;
+    if sites_with(town, division, share, share) != town.k {
+        return 18;
+    }
+    claim_refusal(town, division, claimed)
+}

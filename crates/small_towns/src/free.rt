@@ -1,0 +1,61 @@
+// The free entries, compared with totals of sets.
+use crate::answers;
+use crate::answers::Given;
+use crate::answers::UNTOUCHED;
+use crate::entries;
+use drawn_towns::SITES;
+use drawn_towns::Town;
+use plain_search::sets;
+ghost use Prim.Native.Nat.{_≤_};
+ghost use Rattle.drawn_towns.specs.Small.{Small};
+
+// 1 where the free plan is not that of the greedy rounds, else 0.
+pub fn wrong_plan(town: Town, shown: bool) -> u64
+    requires { ⌜ Small town ⌝ }
+    ensures { λ r. ⌜ r ≤ 1 ⌝ }
+{
+    let choice = sets::greedy(town);
+    let set = choice.set;
+    let chosen = choice.sites;
+    let right = Given {
+        total: sets::set_total(town, set),
+        refused: 0,
+        division: sets::division(town, set),
+        chosen,
+    };
+    answers::wrong(town, entries::plan(town, false), right, shown)
+}
+
+// 1 where the free plan is farther from the best k sites than the bound has it, else 0.
+pub fn wrong_bound(town: Town, shown: bool) -> u64
+    requires { ⌜ Small town ⌝ }
+    ensures { λ r. ⌜ r ≤ 1 ⌝ }
+{
+    let given = entries::plan(town, false);
+    let near = sets::is_near(town.k, sets::best_total(town), given.total);
+    answers::fails(town, near, shown)
+}
+
+// 1 where the free division over the town's list is another one, else 0.
+pub fn wrong_division(town: Town, shown: bool) -> u64
+    requires { ⌜ Small town ⌝ }
+    ensures { λ r. ⌜ r ≤ 1 ⌝ }
+{
+    let set = sets::listed(town);
+    let right = Given {
+        total: sets::set_total(town, set),
+        refused: 0,
+        division: sets::division(town, set),
+        chosen: [UNTOUCHED; SITES],
+    };
+    answers::wrong(town, entries::division(town, false), right, shown)
+}
+
+// 1 where the list's total is another one, else 0.
+pub fn wrong_total(town: Town, shown: bool) -> u64
+    requires { ⌜ Small town ⌝ }
+    ensures { λ r. ⌜ r ≤ 1 ⌝ }
+{
+    let right = answers::plain(sets::set_total(town, sets::listed(town)), 0);
+    answers::wrong(town, entries::list_total(town), right, shown)
+}
