@@ -171,8 +171,8 @@ pub fn floor(n: usize, m: usize, k: usize, scores: &[u16], rows: &[u8]) -> Answe
     Answer::Total(floors::floor(n, m, k, scores, rows))
 }
 
-// Tests a hand-made free plan, the site of each street, 0 for none, and the total that is claimed for it; gives this total where it is the plan's. Refuses with 1, 2, 3, 6, 8, 9, 10, 11, 17,
-// 18 or 19.
+// Tests a hand-made free plan, which has a site for each street, 0 for none, and the total that is claimed for it; gives the plan's total. Refuses
+// with 1, 2, 3, 6, 8, 9, 10, 11, 17, 18 or 19.
 pub fn free_hand(
     n: usize,
     m: usize,
@@ -191,8 +191,8 @@ pub fn free_hand(
     Answer::Total(claimed)
 }
 
-// Tests a hand-made balanced plan, k sites with n / k streets each, and the total that is claimed for it; gives this total where it is the plan's. Refuses with 1, 2, 3, 5, 6, 8, 9, 10, 11,
-// 17, 18 or 19.
+// Tests a hand-made balanced plan, in which k sites have n / k streets each, and the total that is claimed for it; gives the plan's total. Refuses
+// with 1, 2, 3, 5, 6, 8, 9, 10, 11, 17, 18 or 19.
 pub fn balanced_hand(
     n: usize,
     m: usize,

@@ -1,11 +1,11 @@
--- `cases::number` meets its contract. The loop's invariant: the value is below the bound. At most 10,000 bytes are tried, which is the measure. Assumes nothing.
+-- `cases::input::number` meets its contract. The loop's invariant: the value is below the bound. At most 10,000 bytes are tried, which is the measure. Assumes nothing.
 use Prim.Native.Nat.{_≤_, _<_, _-_}
 use native.Mathlib.Omega.{arith}
 use native.Mathlib.Nat.{mod-lt}
 use mathlib.Core.Logic.{⊎-elim}
 use borrow.Author.Needs.{needs}
-use Rattle.cases.proofs.number.Statement.{statement}
-use Rattle.cases.proofs.number.Tie as tie
+use Rattle.cases.proofs.input.number.Statement.{statement}
+use Rattle.cases.proofs.input.number.Tie as tie
 
 abbrev Inv-loop : tie.InvT-loop
 Inv-loop bound value₀ begun₀ i₀ value begun i = (i ≤ 10000) × (value < bound)

@@ -1,10 +1,10 @@
--- `cases::front` meets its contract. Assumes nothing.
+-- `cases::files::front` meets its contract. Assumes nothing.
 use borrow.Author.Needs.{needs}
 use mathlib.Core.Path.{sym}
 use native.Mathlib.Omega.{arith}
 use lib.Seq.{length-take-le}
-use Rattle.cases.proofs.front.Statement.{statement}
-use Rattle.cases.proofs.front.Tie as tie
+use Rattle.cases.proofs.files.front.Statement.{statement}
+use Rattle.cases.proofs.files.front.Tie as tie
 
 returns : tie.Need-returns
 returns c = search needs

@@ -1,0 +1,193 @@
+//! One call of the library and the same by `plain`: the answer, and every byte lent, must agree. Each gives back the number that was
+//! refused, 0 for an accepted call.
+use crate::plain::survey::{self, division_total, Town};
+use crate::plain::{balanced, division, file, free, hand, refusals};
+use planner::Refusal;
+use std::fmt::Debug;
+
+/// What lent buffers hold before a call, so that a byte that is touched shows.
+const OLD: u8 = 0xA5;
+
+/// The lengths of a plan's buffers.
+#[derive(Clone, Copy)]
+pub struct Buffers {
+    pub division: usize,
+    pub chosen: usize,
+}
+
+/// An outcome of the library against one by `plain`.
+fn same<T: PartialEq + Debug>(ours: Result<T, Refusal>, plain: Result<T, u8>, call: &str, town: &Town) -> u8 {
+    let number = *plain.as_ref().err().unwrap_or(&0);
+    assert_eq!(ours.map_err(Refusal::number), plain, "{call} of {town:?}");
+    number
+}
+
+/// A buffer after a call: the new bytes where it was accepted, else the old ones.
+fn held(buffer: &[u8], new: Option<&[u8]>, call: &str, town: &Town) {
+    match new {
+        Some(bytes) => assert_eq!(buffer, bytes, "the buffer of {call} of {town:?}"),
+        None => assert!(buffer.iter().all(|&byte| byte == OLD), "a refused {call} of {town:?} wrote"),
+    }
+}
+
+/// The best division: by paths, and on small towns by trying all as well, which must agree.
+pub fn best_division(values: &[Vec<u32>], sites: &[u8]) -> Vec<u8> {
+    if values.len() > 9 {
+        return division::by_paths(values, sites);
+    }
+    let best = division::by_trying(values, sites);
+    assert_eq!(division::by_paths(values, sites), best);
+    best
+}
+
+pub fn check_survey(t: &Town) -> u8 {
+    same(planner::check_survey(t.n, t.m, t.k, &t.scores, &t.rows), refusals::check(t), "check_survey", t)
+}
+
+pub fn ranked_part(row: &[u8]) {
+    let part = planner::ranked_part(row);
+    assert_eq!(part, survey::ranked(row));
+    assert_eq!(part.as_ptr(), row.as_ptr());
+}
+
+pub fn row_score(t: &Town, row: &[u8], site: u8) -> u8 {
+    let plain = refusals::row_score(t, row, site).map(|()| survey::score(&t.scores, row, site));
+    same(planner::row_score(t.m, &t.scores, row, site), plain, "row_score", t)
+}
+
+pub fn list_total(t: &Town, sites: &[u8]) -> u8 {
+    let plain = refusals::list_total(t, sites).map(|()| free::total(&t.values(), sites));
+    same(planner::list_total(t.n, t.m, &t.scores, &t.rows, sites), plain, "list_total", t)
+}
+
+pub fn free_division(t: &Town, sites: &[u8], length: usize) -> u8 {
+    let mut buffer = vec![OLD; length];
+    let ours = planner::free_division(t.n, t.m, &t.scores, &t.rows, sites, &mut buffer);
+    let tried = refusals::free_division(t, sites, length);
+    let new = tried.is_ok().then(|| free::divide(t, sites));
+    held(&buffer, new.as_deref(), "free_division", t);
+    same(ours, tried.map(|()| free::total(&t.values(), sites)), "free_division", t)
+}
+
+pub fn balanced_division(t: &Town, sites: &[u8], length: usize) -> u8 {
+    let mut buffer = vec![OLD; length];
+    let ours = planner::balanced_division(t.n, t.m, &t.scores, &t.rows, sites, &mut buffer);
+    let tried = refusals::balanced_division(t, sites, length);
+    let new = tried.is_ok().then(|| best_division(&t.values(), sites));
+    held(&buffer, new.as_deref(), "balanced_division", t);
+    same(ours, tried.map(|()| division_total(&t.values(), &buffer)), "balanced_division", t)
+}
+
+pub fn free_plan(t: &Town, lengths: Buffers) -> u8 {
+    let (mut buffer, mut chosen) = (vec![OLD; lengths.division], vec![OLD; lengths.chosen]);
+    let ours = planner::free_plan(t.n, t.m, t.k, &t.scores, &t.rows, &mut buffer, &mut chosen);
+    let tried = refusals::free_plan(t, lengths.division, lengths.chosen);
+    let sites = tried.is_ok().then(|| free::sites(t));
+    let new = sites.as_ref().map(|sites| free::divide(t, sites));
+    held(&chosen, sites.as_deref(), "free_plan", t);
+    held(&buffer, new.as_deref(), "free_plan", t);
+    same(ours, tried.map(|()| free::total(&t.values(), &chosen)), "free_plan", t)
+}
+
+pub fn balanced_plan(t: &Town, lengths: Buffers) -> u8 {
+    let (mut buffer, mut chosen) = (vec![OLD; lengths.division], vec![OLD; lengths.chosen]);
+    let ours = planner::balanced_plan(t.n, t.m, t.k, &t.scores, &t.rows, &mut buffer, &mut chosen);
+    let tried = refusals::balanced_plan(t, lengths.division, lengths.chosen);
+    let sites = tried.is_ok().then(|| balanced::sites(t));
+    let new = sites.as_ref().map(|sites| best_division(&t.values(), sites));
+    held(&chosen, sites.as_deref(), "balanced_plan", t);
+    held(&buffer, new.as_deref(), "balanced_plan", t);
+    same(ours, tried.map(|()| division_total(&t.values(), &buffer)), "balanced_plan", t)
+}
+
+pub fn floor(t: &Town) -> u8 {
+    let plain = refusals::floor(t).map(|()| balanced::floor(t));
+    same(planner::floor(t.n, t.m, t.k, &t.scores, &t.rows), plain, "floor", t)
+}
+
+pub fn free_hand(t: &Town, division: &[u8], claimed: u32) -> u8 {
+    let plain = hand::free(t, division, claimed).map(|()| division_total(&t.values(), division));
+    same(planner::free_hand(t.n, t.m, t.k, &t.scores, &t.rows, division, claimed), plain, "free_hand", t)
+}
+
+pub fn balanced_hand(t: &Town, division: &[u8], claimed: u32) -> u8 {
+    let plain = hand::balanced(t, division, claimed).map(|()| division_total(&t.values(), division));
+    same(planner::balanced_hand(t.n, t.m, t.k, &t.scores, &t.rows, division, claimed), plain, "balanced_hand", t)
+}
+
+pub fn write_file(t: &Town, kind: usize, length: usize) -> u8 {
+    let mut buffer = vec![OLD; length];
+    let ours = planner::write_file(t.n, t.m, t.k, kind, &t.scores, &t.rows, &mut buffer);
+    let plain = refusals::write(t, kind).and_then(|()| {
+        let file = file::write(t, kind);
+        if length < file.len() {
+            Err(7)
+        } else {
+            Ok(file)
+        }
+    });
+    let size = plain.as_ref().map_or(0, |file| file.len());
+    held(&buffer[..size], plain.as_deref().ok(), "write_file", t);
+    held(&buffer[size..], None, "write_file", t);
+    same(ours, plain.map(|file| file.len()), "write_file", t)
+}
+
+/// The reader, through the raw function, since the four numbers it is lent are to be looked at too.
+pub fn read_file(bytes: &[u8], rows_length: usize, scores_length: usize) -> u8 {
+    let (mut rows, mut scores, mut sizes) = (vec![OLD; rows_length], vec![u16::from(OLD); scores_length], [usize::from(OLD); 4]);
+    let [n, m, k, kind] = &mut sizes;
+    // SAFETY: each pointer is a vector's own and stands beside its length.
+    let answer = unsafe {
+        planner::raw::planner_read_file(
+            bytes.as_ptr(),
+            bytes.len(),
+            rows.as_mut_ptr(),
+            rows.len(),
+            scores.as_mut_ptr(),
+            scores.len(),
+            n,
+            m,
+            k,
+            kind,
+        )
+    };
+    let right = refusals::length(rows_length, 25_600).and_then(|()| refusals::length(scores_length, 64));
+    let filled = match right.and_then(|()| file::read(bytes)) {
+        Err(number) => {
+            assert_eq!(answer, u64::from(number) << 32, "reading {bytes:?}");
+            assert_eq!(sizes, [usize::from(OLD); 4], "a refused reading of {bytes:?} wrote");
+            (number, Vec::new(), Vec::new())
+        }
+        Ok((town, kind)) => {
+            assert_eq!((answer, sizes), (0, [town.n, town.m, town.k, kind]), "reading {bytes:?}");
+            (0, town.rows, town.scores)
+        }
+    };
+    let (number, new_rows, new_scores) = filled;
+    assert!(rows.starts_with(&new_rows) && scores.starts_with(&new_scores), "what was read of {bytes:?}");
+    assert!(rows[new_rows.len()..].iter().all(|&byte| byte == OLD), "rows behind {bytes:?}");
+    assert!(scores[new_scores.len()..].iter().all(|&score| score == u16::from(OLD)), "scores behind {bytes:?}");
+    number
+}
+
+/// A right survey, asked for everything: both plans, the division of a list, the floor, and its file there and back.
+pub fn everything(t: &Town, sites: &[u8], kind: usize) {
+    assert_eq!(check_survey(t), 0);
+    t.rows.chunks(t.m).for_each(ranked_part);
+    for site in [0, 1, t.m as u8, t.m as u8 + 1] {
+        row_score(t, t.row(t.n - 1), site);
+    }
+    list_total(t, sites);
+    free_division(t, sites, t.n);
+    balanced_division(t, sites, t.n);
+    let exact = Buffers { division: t.n, chosen: t.k };
+    free_plan(t, exact);
+    balanced_plan(t, exact);
+    floor(t);
+    let file = file::write(t, kind);
+    assert_eq!(file::read(&file), Ok((t.clone(), kind)));
+    write_file(t, kind, file.len());
+    write_file(t, kind, file.len() - 1);
+    write_file(t, kind, 27_739);
+    read_file(&file, 25_600, 64);
+}

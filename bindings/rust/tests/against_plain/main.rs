@@ -1,0 +1,13 @@
+//! The library against an independent implementation (`plain`), written from document 01's text in the plainest way: totals by
+//! definition, rounds played as they are told, every division tried on small towns.
+mod compare;
+mod damaged;
+mod files;
+mod hands;
+mod long;
+mod plain;
+mod random;
+mod small;
+mod towns;
+mod words;
+mod worked;

@@ -1,0 +1,35 @@
+//! The test of a hand-made plan.
+use super::refusals::{length, outside, share, survey, Tried};
+use super::survey::{division_total, Town};
+
+/// How many of a division's streets go to each site.
+fn counts(town: &Town, division: &[u8]) -> Vec<usize> {
+    town.sites().map(|site| division.iter().filter(|&&given| given == site).count()).collect()
+}
+
+fn claim(town: &Town, division: &[u8], claimed: u32) -> Tried {
+    if division_total(&town.values(), division) == claimed {
+        Ok(())
+    } else {
+        Err(19)
+    }
+}
+
+pub fn free(town: &Town, division: &[u8], claimed: u32) -> Tried {
+    survey(town, town.k, || length(division.len(), town.n))?;
+    outside(0, town.m, division)?;
+    if counts(town, division).iter().filter(|&&streets| streets > 0).count() > town.k {
+        return Err(18);
+    }
+    claim(town, division, claimed)
+}
+
+pub fn balanced(town: &Town, division: &[u8], claimed: u32) -> Tried {
+    survey(town, town.k, || share(town.n, town.k).and_then(|()| length(division.len(), town.n)))?;
+    outside(1, town.m, division)?;
+    let used: Vec<usize> = counts(town, division).into_iter().filter(|&streets| streets > 0).collect();
+    if used.len() != town.k || used.iter().any(|&streets| streets != town.n / town.k) {
+        return Err(18);
+    }
+    claim(town, division, claimed)
+}

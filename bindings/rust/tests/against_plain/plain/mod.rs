@@ -1,0 +1,8 @@
+//! Document 01 in plain Rust. A refusal is its number, `Err(number)`; sites count from 1 and streets, in code, from 0.
+pub mod balanced;
+pub mod division;
+pub mod file;
+pub mod free;
+pub mod hand;
+pub mod refusals;
+pub mod survey;

@@ -1,0 +1,122 @@
+//! Document 01's worked surveys, and each refusal once.
+use crate::plain::survey::Town;
+use planner::{Refusal, Sizes};
+
+/// A town from its lists.
+fn town(m: usize, k: usize, scores: &[u16], lists: &[&[u8]]) -> Town {
+    let mut rows = Vec::new();
+    for list in lists {
+        rows.extend_from_slice(list);
+        rows.resize(rows.len() + m - list.len(), 0);
+    }
+    Town { n: lists.len(), m, k, scores: scores.to_vec(), rows }
+}
+
+/// Total, sites in order of choice, and the site of each street.
+type Plan = Result<(u32, Vec<u8>, Vec<u8>), Refusal>;
+
+fn free(t: &Town) -> Plan {
+    let (mut division, mut chosen) = (vec![0; t.n], vec![0; t.k]);
+    let total = planner::free_plan(t.n, t.m, t.k, &t.scores, &t.rows, &mut division, &mut chosen)?;
+    Ok((total, chosen, division))
+}
+
+fn balanced(t: &Town) -> Plan {
+    let (mut division, mut chosen) = (vec![0; t.n], vec![0; t.k]);
+    let total = planner::balanced_plan(t.n, t.m, t.k, &t.scores, &t.rows, &mut division, &mut chosen)?;
+    Ok((total, chosen, division))
+}
+
+fn floor(t: &Town) -> Result<u32, Refusal> {
+    planner::floor(t.n, t.m, t.k, &t.scores, &t.rows)
+}
+
+fn p1(k: usize) -> Town {
+    town(3, k, &[2, 1, 0], &[&[1, 2, 3], &[1, 3, 2], &[2, 1], &[3, 2, 1]])
+}
+
+fn p3() -> Town {
+    town(3, 2, &[1, 1, 0], &[&[1], &[1, 3], &[1, 3], &[2, 3], &[2, 3], &[2]])
+}
+
+fn p5() -> Town {
+    town(2, 2, &[2, 1], &[&[1, 2], &[1]])
+}
+
+const P5_FILE: [u8; 28] = [
+    0x54, 0x4E, 0x02, 0x00, 0x02, 0x02, 0x01, 0x53, 0x43, 0x02, 0x00, 0x01, 0x00, 0x53, 0x54, 0x01, 0x00, 0x02, 0x01, 0x02, 0x53, 0x54,
+    0x02, 0x00, 0x01, 0x01, 0x45, 0x4E,
+];
+
+#[test]
+fn worked_surveys() {
+    assert_eq!(free(&p1(2)), Ok((7, vec![1, 2], vec![1, 1, 2, 2])));
+    assert_eq!(balanced(&p1(2)), Ok((7, vec![1, 2], vec![1, 1, 2, 2])));
+    assert_eq!(floor(&p1(2)), Ok(2));
+    assert_eq!(free(&p3()), Ok((5, vec![3, 1], vec![1, 1, 1, 3, 3, 0])));
+    assert_eq!(balanced(&p3()), Ok((6, vec![1, 2], vec![1, 1, 1, 2, 2, 2])));
+    assert_eq!(balanced(&p5()), Ok((3, vec![1, 2], vec![2, 1])));
+    let all: Vec<u8> = (1..=10).collect();
+    assert_eq!(floor(&town(10, 3, &[9, 8, 7, 6, 5, 4, 3, 2, 1, 0], &[&all[..]; 9])), Ok(30));
+    assert_eq!(free(&p1(3)).map(|plan| (plan.0, plan.1)), Ok((8, vec![1, 2, 3])));
+    assert_eq!(balanced(&p1(3)), Err(Refusal::Share));
+    let p8 = town(1, 1, &[7], &[&[]]);
+    assert_eq!(free(&p8), Ok((0, vec![1], vec![0])));
+    assert_eq!(balanced(&p8), Ok((0, vec![1], vec![1])));
+}
+
+#[test]
+fn worked_file() {
+    let t = p5();
+    let mut file = [0; 28];
+    assert_eq!(planner::write_file(t.n, t.m, t.k, planner::BALANCED, &t.scores, &t.rows, &mut file), Ok(28));
+    assert_eq!(file, P5_FILE);
+    let (mut rows, mut scores) = ([0; planner::ROWS], [0; planner::SITES]);
+    assert_eq!(planner::read_file(&file, &mut rows, &mut scores), Ok(Sizes { n: 2, m: 2, k: 2, kind: 1 }));
+    assert_eq!((&rows[..4], &scores[..2]), (&t.rows[..], &t.scores[..]));
+    assert_eq!(planner::read_file(&[], &mut rows, &mut scores), Err(Refusal::FileEnds));
+}
+
+/// The reader's answer to P5's file with one byte changed, and one more or less behind it.
+fn changed(index: usize, byte: u8, length: usize) -> Refusal {
+    let mut file = P5_FILE.to_vec();
+    file[index] = byte;
+    file.resize(length, 0);
+    planner::read_file(&file, &mut [0; planner::ROWS], &mut [0; planner::SITES]).unwrap_err()
+}
+
+#[test]
+fn each_refusal() {
+    let (t, mut bytes) = (p1(2), [0; 40]);
+    let check = |n, m, k, scores: &[u16], rows: &[u8]| planner::check_survey(n, m, k, scores, rows).unwrap_err();
+    let with = |index: usize, byte| {
+        let mut rows = t.rows.clone();
+        rows[index] = byte;
+        check(4, 3, 2, &t.scores, &rows)
+    };
+    let list = |sites: &[u8]| planner::list_total(4, 3, &t.scores, &t.rows, sites).unwrap_err();
+    let given = [
+        check(0, 3, 2, &t.scores, &t.rows),
+        check(4, 65, 2, &t.scores, &t.rows),
+        check(4, 3, 4, &t.scores, &t.rows),
+        planner::write_file(4, 3, 2, 2, &t.scores, &t.rows, &mut bytes).unwrap_err(),
+        floor(&p1(3)).unwrap_err(),
+        check(4, 3, 2, &t.scores, &t.rows[1..]),
+        planner::write_file(4, 3, 2, 1, &t.scores, &t.rows, &mut bytes).unwrap_err(),
+        check(4, 3, 2, &[2, 1, 2], &t.rows),
+        with(0, 0),
+        with(0, 4),
+        with(0, 2),
+        changed(0, b'T', 27),
+        changed(13, b'E', 28),
+        changed(15, 2, 28),
+        changed(17, 3, 28),
+        changed(0, b'T', 29),
+        list(&[1, 0]),
+        planner::free_hand(4, 3, 2, &t.scores, &t.rows, &[1, 2, 3, 0], 0).unwrap_err(),
+        planner::balanced_hand(4, 3, 2, &t.scores, &t.rows, &[1, 1, 2, 2], 6).unwrap_err(),
+        list(&[1, 1]),
+    ];
+    let numbers: Vec<u8> = given.iter().map(|refusal| refusal.number()).collect();
+    assert_eq!(numbers, Refusal::ALL.map(Refusal::number));
+}

@@ -1,0 +1,93 @@
+// The input of the cases: decimal numbers, which every other byte only separates. A list is its length, a count, and that many values, which stand
+// first in the list, before zeros.
+use libc::STDIN_FILENO;
+ghost use Prim.Native.Nat.{_≤_, _<_};
+ghost use Rattle.io.specs.Counts.{Counts};
+
+// the most bytes up to the end of a number
+const GAP: usize = 10000;
+
+// the longest lists of scores and of bytes
+const SCORES: usize = 65;
+
+const BYTES: usize = 26000;
+
+// what is above the length of a list, and above every number
+const SCORES_BOUND: usize = SCORES + 1;
+
+const BYTES_BOUND: usize = BYTES + 1;
+
+pub const BOUND: usize = 10000000000000;
+
+// A list of scores, the first `len` of the buffer.
+pub struct Scores {
+    pub buffer: [u16; SCORES],
+    pub len: usize,
+}
+
+// A list of bytes, the first `len` of the buffer.
+pub struct Bytes {
+    pub buffer: [u8; BYTES],
+    pub len: usize,
+}
+
+// The next byte of the input as a digit; above 9 where it is none, and past the end.
+fn digit() -> u8 {
+    let mut byte = [0u8; 1];
+    io::read_full(STDIN_FILENO, &mut byte);
+    std::num::wrapping_sub_u8(byte[0], b'0')
+}
+
+// The next number, and 0 where none is left. It counts modulo `bound`, which is above it in every case.
+pub fn number(bound: usize) -> usize
+    requires { ⌜ 0 < bound ⌝ }
+    requires { ⌜ bound ≤ 10000000000000 ⌝ }
+    ensures { λ r. ⌜ r < bound ⌝ }
+{
+    let mut value: usize = 0;
+    let mut begun = false;
+    for i in 0..GAP {
+        let d = digit();
+        if d <= 9 {
+            begun = true;
+            value = (value * 10 + d as usize) % bound;
+        } else {
+            if begun {
+                return value;
+            }
+        }
+    }
+    value
+}
+
+// The next list, of scores.
+pub fn scores_list() -> Scores
+    ensures { λ r. ⌜ Counts (r .len) (r .buffer) ⌝ }
+{
+    let len = number(SCORES_BOUND);
+    let count = number(SCORES_BOUND);
+    let mut buffer = [0u16; SCORES];
+    for i in 0..count {
+        buffer[i] = number(65536) as u16;
+    }
+    Scores {
+        buffer: buffer,
+        len: len,
+    }
+}
+
+// The next list, of bytes.
+pub fn bytes_list() -> Bytes
+    ensures { λ r. ⌜ Counts (r .len) (r .buffer) ⌝ }
+{
+    let len = number(BYTES_BOUND);
+    let count = number(BYTES_BOUND);
+    let mut buffer = [0u8; BYTES];
+    for i in 0..count {
+        buffer[i] = number(256) as u8;
+    }
+    Bytes {
+        buffer: buffer,
+        len: len,
+    }
+}
