@@ -3,8 +3,8 @@
 use mathlib.Core.Path.{_≡_, refl, sym, ap}
 use mathlib.Core.List.{List, [], _∷_}
 use mathlib.Core.Logic.{by-cases}
-use Prim.Native.Nat.{ℕ, zero, suc, _+_, _*_, _≤_, _<_}
-use native.Mathlib.Nat.{mul-le-mul}
+use Prim.Native.Nat.{ℕ, zero, suc, _+_, _*_, _-_, _≤_, _<_}
+use native.Mathlib.Nat.{mul-le-mul, mul-le-mul-left, mul-one, mul-zero}
 use native.Mathlib.Numerals.{add-one}
 use native.Mathlib.Decide.{ℕ-discrete}
 use native.Mathlib.Omega.{arith}
@@ -41,6 +41,24 @@ rest-of line j l = rw add-one (drop-cons line j 0 l)
 -- nothing is left of a line past its end
 rest-none : (line : List ℕ) (j : ℕ) → length line ≤ j → j ≤ length line → drop j line ≡ []
 rest-none line j l m = let e : j ≡ length line = omega arith in rw e (drop-length line)
+
+-- a value that counts once or not at all
+pub once-le : (value once : ℕ) → once ≤ 1 → value * once ≤ value
+once-le value once l = omega (arith, mul-le-mul-left value l)
+
+pub once-all : (value once : ℕ) → once ≡ 1 → value * once ≡ value
+once-all value once e = rw e (mul-one value)
+
+pub once-none : (value once : ℕ) → once ≡ 0 → value * once ≡ 0
+once-none value once e = rw e (mul-zero value)
+
+-- a street that is counted once where it is free, and not at all where it is given away
+pub stepped : (f : ℕ → ℕ) (division : List ℕ) (s left total once x : ℕ) → 0 < left → (at division s ≡ 0 → once ≡ 1) → ((at division s ≡ 0 → ⊥) → once ≡ 0)
+    → (once ≡ 1 → x ≡ f s) → (once ≡ 0 → x ≡ 0) → Stepped f division s left total (left - once) (total + x)
+stepped f division s left total once x some free given counts none = record {
+  counted = λ e. (omega (arith, free e), ap (λ (y : ℕ). total + y) (counts (free e)));
+  passed = λ n. (omega (arith, given n), omega (arith, none (given n)));
+}
 
 -- a sum over the first q free streets of a line, of which the line from j on still has `left`
 pub record Adding (f : ℕ → ℕ) (line division : List ℕ) (q j left total : ℕ) : Type 0 where

@@ -14,19 +14,32 @@ struct Tally {
     total: u32,
 }
 
+// 1 for site 0, at which a street is free, and 0 for every other site. No branch: which streets of a line are free can't be guessed.
+fn open(site: u8) -> u32
+    ensures { λ r. ⌜ (r ≤ 1) × (site ≡ 0 → r ≡ 1) × ((site ≡ 0 → ⊥) → r ≡ 0) ⌝ }
+{
+    (256 - site as u32) / 256
+}
+
+// A value that counts once or not at all.
+fn times(value: u32, once: u32) -> u32
+    requires { ⌜ once ≤ 1 ⌝ }
+    ensures { λ r. ⌜ (r ≤ value) × (once ≡ 1 → r ≡ value) × (once ≡ 0 → r ≡ 0) ⌝ }
+{
+    value * once
+}
+
 // One street more: a free one is counted.
 fn step(tally: Tally, values: &[u32], m: usize, division: &[u8], s: usize, a: usize) -> Tally
     requires { ⌜ Table (length (now division)) m (now values) × (s < length (now division)) × (a ≤ m) ⌝ }
     requires { ⌜ (0 < tally .left) × (tally .total ≤ 39600000) ⌝ }
     ensures { λ r. ⌜ Stepped (λ t. valueIn (now (values .entry)) m t a) (now (division .entry)) s (tally .left) (tally .total) (r .left) (r .total) ⌝ }
 {
-    if division[s] != 0 {
-        return tally;
-    }
+    let once = open(division[s]);
     let w = m + 1;
     Tally {
-        left: tally.left - 1,
-        total: tally.total + values[s * w + a],
+        left: tally.left - once as usize,
+        total: tally.total + times(values[s * w + a], once),
     }
 }
 
