@@ -30,7 +30,7 @@ fn divide_table(
     let q = division.len() / sites.len();
     starts::share_out(sites, q as u16, m, shares);
     starts::begin(values, shares, left, division);
-    best_division::best(values, shares, division)
+    compact::best(values, shares, division)
 }
 
 // The best balanced division over a list of sites, and its total.

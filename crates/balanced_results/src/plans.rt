@@ -40,7 +40,7 @@ fn improve(values: &[u32], m: usize, sites: &[u8], division: &mut [u8], shares: 
 {
     let q = division.len() / sites.len();
     starts::share_out(sites, q as u16, m, shares);
-    best_division::best(values, shares, division)
+    compact::best(values, shares, division)
 }
 
 // The balanced plan by a table of values, with a buffer for the shares.

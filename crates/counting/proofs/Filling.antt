@@ -1,12 +1,12 @@
 -- Laws of a list that is filled from the front, one store a turn.
 -- Assumes nothing.
 use mathlib.Core.Path.{_≡_, refl, sym, ap, _∙_}
-use mathlib.Core.List.{List}
-use Prim.Native.Nat.{ℕ, _+_, _≤_, _<_}
-use native.Mathlib.Nat.{le-antisymm}
+use mathlib.Core.List.{List, [], _∷_, map}
+use Prim.Native.Nat.{ℕ, zero, suc, _+_, _≤_, _<_}
+use native.Mathlib.Nat.{le-antisymm, le-of-suc-le-suc}
 use native.Mathlib.Omega.{arith}
 use borrow.Author.Count.{below-more}
-use lib.ListN.{length, set, length-set}
+use lib.ListN.{length, set, length-set, length-map}
 use lib.Seq.{getD-set-same, getD-set-other, ext-getD}
 use Rattle.counting.specs.Lists.{at}
 use Rattle.counting.specs.Buffers.{Mapped, listOf}
@@ -39,3 +39,15 @@ mapped-listOf g before now n e h =
 
 pub mapped-list : (list before now : List ℕ) (n : ℕ) → length list ≡ length before → n ≡ length before → Mapped (λ i x. at list i) before now n → now ≡ list
 mapped-list list before now n s e h = ext-getD 0 now list (h .size ∙ sym s) (λ i l. h .done i (omega (arith, h .size)))
+
+-- what stands in a list of which each number has become f of what it was
+map-at : (f : ℕ → ℕ) (list : List ℕ) (i : ℕ) → i < length list → at (map f list) i ≡ f (at list i)
+map-at f [] i l = absurd (omega arith)
+map-at f (a ∷ list) zero l = refl
+map-at f (a ∷ list) (suc i) l = map-at f list i (le-of-suc-le-suc l)
+
+-- a list of which a loop has made each number f of what it was
+pub mapped-map : (f : ℕ → ℕ) (before now : List ℕ) (n : ℕ) → n ≡ length before → Mapped (λ i x. f x) before now n → now ≡ map f before
+mapped-map f before now n e h =
+    ext-getD 0 now (map f before) (h .size ∙ sym (length-map before f))
+    (λ i l. let less : i < n = omega (arith, h .size) in h .done i less ∙ sym (map-at f before i (omega arith)))

@@ -5,3 +5,4 @@ pub mod Dual
 pub mod Chain
 pub mod Ties
 pub mod Towns
+pub mod Renumbered

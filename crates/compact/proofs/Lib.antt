@@ -1,0 +1,3 @@
+pub mod Columning
+pub mod Compacted
+pub mod Numbering
