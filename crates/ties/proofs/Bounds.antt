@@ -11,8 +11,10 @@ use lib.ListN.{length}
 use borrow.Author.Tests.{eqb-true, eqb-false}
 use Rattle.counting.specs.Lists.{at, cell}
 use Rattle.counting.proofs.Tables.{in-rows}
-use Rattle.ties.specs.Queue.{Scene, Tells, Room, flag, Placed}
+use Rattle.ties.specs.Queue.{Scene, Tells, Room, flag, Placed, Grown}
+use Rattle.ties.specs.Tights.{RowOf, Rowed, Rows}
 use Rattle.ties.proofs.Growth.{placed-fits, placed-room}
+use Rattle.ties.proofs.Listing.{place-row, row-fits}
 
 -- a test of two numbers says whether they are equal
 pub tells-equal : (a b : ℕ) → Tells (eqb a b) (a ≡ b)
@@ -87,6 +89,31 @@ joining {w} {k} x few room p small new =
       street = omega (arith, room .streets-fit);
       next = omega (arith, room .nexts-fit);
       site = omega (arith, room .sites-fit);
+    }
+
+-- what a walk over the row of the place i reads
+pub record Walk (v : ℕ → ℕ → ℕ) (d : ℕ → ℕ) (D tights ends sites : List ℕ) (i : ℕ) : Type 0 where
+  pub few : length D ≤ 400
+  pub place : i < length sites
+  pub small : at sites i < 65
+  pub end : at sites i < length ends
+  pub row : RowOf v d D tights ends (at sites i)
+  pub fits : (j : ℕ) → j ≤ at ends (at sites i) → (at sites i * (length D + 1) + j < length tights) × (at sites i * (length D + 1) + j < 26065)
+
+-- a place of the queue has all that
+pub walk : {values prices D : List ℕ} {w k : ℕ} {streets nexts sites : List ℕ} {marks : List Bool} {v : ℕ → ℕ → ℕ} {d : ℕ → ℕ} {s : ℕ} {n : ℕ} (i : ℕ)
+    (tights ends : List ℕ) → Scene values prices D w → Room w streets nexts sites marks → (i < k) × (s < length D)
+    → Rows w (length D) tights ends × Rowed v d D tights ends → Grown v d D s w k sites streets nexts marks n → Walk v d D tights ends sites i
+walk {values} {prices} {D} {w} {k} {streets} {nexts} {sites} {marks} {v} {d} {s} {n} i tights ends h room (l, m) (rows, rowed) g =
+    let site : at sites i < w = g .placed .within i l in
+    let row : RowOf v d D tights ends (at sites i) = place-row i tights ends m l g rowed in
+    record {
+      few = h .few;
+      place = omega (arith, room .sites-fit, placed-fits (g .placed));
+      small = omega (arith, h .few-sites);
+      end = omega (arith, rows .1);
+      row = row;
+      fits = λ j o. row-fits tights (at sites i) j site (omega (arith, row .fits)) (h .few-sites) (h .few) (rows .0);
     }
 
 -- buffers of the same lengths have the same room

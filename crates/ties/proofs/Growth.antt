@@ -133,12 +133,23 @@ module _ {v : ℕ → ℕ → ℕ} {d : ℕ → ℕ} {D : List ℕ} {s w : ℕ} 
       }
 
   module _ {k : ℕ} {sites streets nexts : List ℕ} {marks : List Bool} {i : ℕ} where
-    -- the streets up to s are no later ones
-    pub growing-start : Grown v d D s w k sites streets nexts marks i → i < k → Growing v d D s w k sites streets nexts marks i (s + 1)
-    growing-start g l = record { grown = g; place = l; here = λ t m n. absurd (omega arith) }
+    -- from u on no street is tight for the site of the place
+    pub growing-start : {u : ℕ} → Grown v d D s w k sites streets nexts marks i → i < k
+        → ((t : ℕ) → u ≤ t → t < length D → Tight v d D t (at sites i) → ⊥) → Growing v d D s w k sites streets nexts marks i u
+    growing-start g l none = record { grown = g; place = l; here = λ t m n a f. none t m n }
+
+    -- nor is one of those before it
+    pub growing-skip : {u : ℕ} (e : ℕ) → Growing v d D s w k sites streets nexts marks i u
+        → ((t : ℕ) → e ≤ t → t < u → Tight v d D t (at sites i) → ⊥) → Growing v d D s w k sites streets nexts marks i e
+    growing-skip {u} e h none =
+        record {
+          grown = h .grown;
+          place = h .place;
+          here = λ t m l a f. by-cases (decLt t u) (none t m) (λ n. h .here t (omega arith) l a f);
+        }
 
     -- a place that has been looked at with all streets is done
-    pub growing-done : {u : ℕ} → Growing v d D s w k sites streets nexts marks i u → length D ≤ u → Grown v d D s w k sites streets nexts marks (i + 1)
+    pub growing-done : {u : ℕ} → Growing v d D s w k sites streets nexts marks i u → u ≤ s + 1 → Grown v d D s w k sites streets nexts marks (i + 1)
     growing-done h l =
         let g = h .grown in
         record {
@@ -146,20 +157,20 @@ module _ {v : ℕ → ℕ → ℕ} {d : ℕ → ℕ} {D : List ℕ} {s w : ℕ} 
           placed = g .placed;
           queue = g .queue;
           linked = g .linked;
-          done = below-more (λ j. Shut v d D s marks (at sites j) (length D)) i (g .done) (λ t m. h .here t (omega arith));
+          done = below-more (λ j. Shut v d D s marks (at sites j) 0) i (g .done) (λ t m n a. h .here t (omega arith) n a);
         }
 
     -- a street whose site is in the queue, or that is not tight, changes nothing
-    pub growing-keep : {u : ℕ} → Growing v d D s w k sites streets nexts marks i u → (flag marks (at D u) ≡ false → Tight v d D u (at sites i) → ⊥)
-        → Growing v d D s w k sites streets nexts marks i (u + 1)
+    pub growing-keep : {u : ℕ} → Growing v d D s w k sites streets nexts marks i (u + 1)
+        → (flag marks (at D u) ≡ false → Tight v d D u (at sites i) → ⊥) → Growing v d D s w k sites streets nexts marks i u
     growing-keep {u} h n =
         record {
           grown = h .grown;
           place = h .place;
-          here = below-more (λ t. s < t → flag marks (at D t) ≡ false → Tight v d D t (at sites i) → ⊥) u (h .here) (λ l. n);
+          here = λ t m l a f y. by-cases (ℕ-discrete t u) (λ q. n (rw q at f) (rw q at y)) (λ o. h .here t (omega arith) l a f y);
         }
 
-    module _ {u : ℕ} (h : Growing v d D s w k sites streets nexts marks i u) (after : s < u) (street : u < length D) (small : at D u < w)
+    module _ {u : ℕ} (h : Growing v d D s w k sites streets nexts marks i (u + 1)) (after : s < u) (street : u < length D) (small : at D u < w)
         (wide : at D u < length marks) (new : flag marks (at D u) ≡ false) (tight : Tight v d D u (at sites i)) (sites′ streets′ nexts′ : List ℕ)
         (gs : Grows sites sites′ k (at D u)) (gt : Grows streets streets′ k u) (gn : Grows nexts nexts′ k i) where
       -- the queue as it was
@@ -176,7 +187,7 @@ module _ {v : ℕ → ℕ → ℕ} {d : ℕ → ℕ} {D : List ℕ} {s w : ℕ} 
 
       -- what was shut stays shut
       shut : (y e : ℕ) → Shut v d D s marks y e → Shut v d D s (set marks (at D u) true) y e
-      shut y e c t l m n = c t l m (flag-less f (at D t) n)
+      shut y e c t l m a n = c t l m a (flag-less f (at D t) n)
 
       -- the streets of the old places stand there still
       later : (j : ℕ) → j < k → 0 < j → Later D s (at streets′ j) (at sites′ j)
@@ -190,12 +201,12 @@ module _ {v : ℕ → ℕ → ℕ} {d : ℕ → ℕ} {D : List ℕ} {s w : ℕ} 
       linked : (j : ℕ) → j < k → 0 < j → Tight v d D (at streets′ j) (at sites′ (at nexts′ j))
       linked j l m = rw (gt .same j l, gn .same j l, gs .same (at nexts j) (omega (arith, q .nearer j l m))) (g .linked j l m)
 
-      -- the site that joins has a flag
-      here : s < u → flag (set marks (at D u) true) (at D u) ≡ false → Tight v d D u (at sites′ i) → ⊥
-      here l n e = true≢false (sym (f .set-now) ∙ n)
+      -- and the site that joins has a flag
+      here : Shut v d D s (set marks (at D u) true) (at sites′ i) (u + 1) → Shut v d D s (set marks (at D u) true) (at sites′ i) u
+      here c t m l a o y = by-cases (ℕ-discrete t u) (λ q. true≢false (sym (f .set-now) ∙ rw q at o)) (λ n. c t (omega arith) l a o y)
 
       -- the site of a street that is tight joins
-      pub growing-more : Growing v d D s w (k + 1) sites′ streets′ nexts′ (set marks (at D u) true) i (u + 1)
+      pub growing-more : Growing v d D s w (k + 1) sites′ streets′ nexts′ (set marks (at D u) true) i u
       growing-more =
           record {
             grown = record {
@@ -209,11 +220,10 @@ module _ {v : ℕ → ℕ → ℕ} {d : ℕ → ℕ} {D : List ℕ} {s w : ℕ} 
               };
               linked = below-more (λ j. 0 < j → Tight v d D (at streets′ j) (at sites′ (at nexts′ j))) k linked
                   (λ m. rw (gt .new, gn .new, gs .same i (h .place)) tight);
-              done = λ j l. rw (gs .same j (omega (arith, h .place))) (shut (at sites j) (length D) (g .done j l));
+              done = λ j l. rw (gs .same j (omega (arith, h .place))) (shut (at sites j) 0 (g .done j l));
             };
             place = omega (arith, h .place);
-            here = below-more (λ t. s < t → flag (set marks (at D u) true) (at D t) ≡ false → Tight v d D t (at sites′ i) → ⊥) u
-                (rw (gs .same i (h .place)) (shut (at sites i) u (h .here))) here;
+            here = here (rw (gs .same i (h .place)) (shut (at sites i) (u + 1) (h .here)));
           }
 
   -- every place has been looked at
@@ -227,5 +237,5 @@ module _ {v : ℕ → ℕ → ℕ} {d : ℕ → ℕ} {D : List ℕ} {s w : ℕ} 
   cut-of c p g =
       record {
         home = rw (g .queue .home) at (g .placed .each 0 (g .some));
-        shut = λ t a l o b h y. let (j, m, e) = g .placed .only b y in lt-of-le-of-ne (p t l b h) (rw e at (g .done j m t l a o));
+        shut = λ t a l o b h y. let (j, m, e) = g .placed .only b y in lt-of-le-of-ne (p t l b h) (rw e at (g .done j m t (omega arith) l a o));
       }

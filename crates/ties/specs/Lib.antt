@@ -1,3 +1,4 @@
 pub mod Queue
 pub mod Home
 pub mod Standing
+pub mod Tights

@@ -67,9 +67,9 @@ pub record Queue (D : List ℕ) (s k : ℕ) (sites streets nexts : List ℕ) : T
 abbrev pub Linked : (ℕ → ℕ → ℕ) → (ℕ → ℕ) → List ℕ → ℕ → List ℕ → List ℕ → List ℕ → Type 0
 Linked v d D k sites streets nexts = (j : ℕ) → j < k → 0 < j → Tight v d D (at streets j) (at sites (at nexts j))
 
--- no later street before u whose site has no flag is tight for the site y
+-- no later street from u on whose site has no flag is tight for the site y
 abbrev pub Shut : (ℕ → ℕ → ℕ) → (ℕ → ℕ) → List ℕ → ℕ → List Bool → ℕ → ℕ → Type 0
-Shut v d D s marks y u = (t : ℕ) → t < u → s < t → flag marks (at D t) ≡ false → Tight v d D t y → ⊥
+Shut v d D s marks y u = (t : ℕ) → u ≤ t → t < length D → s < t → flag marks (at D t) ≡ false → Tight v d D t y → ⊥
 
 -- a queue of k places, of which the first i have been looked at with all streets
 pub record Grown (v : ℕ → ℕ → ℕ) (d : ℕ → ℕ) (D : List ℕ) (s w k : ℕ) (sites streets nexts : List ℕ) (marks : List Bool) (i : ℕ) : Type 0 where
@@ -77,9 +77,9 @@ pub record Grown (v : ℕ → ℕ → ℕ) (d : ℕ → ℕ) (D : List ℕ) (s w
   pub placed : Placed w k sites marks
   pub queue : Queue D s k sites streets nexts
   pub linked : Linked v d D k sites streets nexts
-  pub done : (j : ℕ) → j < i → Shut v d D s marks (at sites j) (length D)
+  pub done : (j : ℕ) → j < i → Shut v d D s marks (at sites j) 0
 
--- and of which the place i has been looked at with the streets before u
+-- and of which the place i has been looked at with the streets from u on
 pub record Growing (v : ℕ → ℕ → ℕ) (d : ℕ → ℕ) (D : List ℕ) (s w k : ℕ) (sites streets nexts : List ℕ) (marks : List Bool) (i u : ℕ) : Type 0 where
   pub grown : Grown v d D s w k sites streets nexts marks i
   pub place : i < k

@@ -5,7 +5,9 @@ ghost use Prim.Native.Nat.{ℕ, _+_, _<_};
 ghost use lib.ListN.{length};
 ghost use Rattle.counting.specs.Lists.{at, cell};
 ghost use Rattle.division.proofs.Dual.{Tight};
+ghost use Rattle.division.proofs.Ties.{Agree};
 ghost use Rattle.ties.specs.Queue.{Scene, Tells, Room, Clear, Placed, Grown, Growing};
+ghost use Rattle.ties.specs.Tights.{Rowed, Rows};
 
 // Whether a street is tight for a site: its move there neither gains nor loses, after prices.
 pub fn tight(values: &[u32], prices: &[u32], w: usize, division: &[u8], t: usize, y: usize) -> bool
@@ -38,9 +40,10 @@ fn join(
     requires { ⌜ (i < count) × (t < length (now division)) ⌝ }
     ensures { λ r. ⌜ ((s : ℕ) → s < t
         → Growing (cell (now (values .entry)) w) (at (now (prices .entry))) (now (division .entry)) s w count
-        (now (sites .entry)) (now (streets .entry)) (now (nexts .entry)) (now (marks .entry)) i t
+        (now (sites .entry)) (now (streets .entry)) (now (nexts .entry)) (now (marks .entry)) i (t + 1)
         → Growing (cell (now (values .entry)) w) (at (now (prices .entry))) (now (division .entry)) s w r
-        (now (sites .exit)) (now (streets .exit)) (now (nexts .exit)) (now (marks .exit)) i (t + 1)) ⌝ }
+        (now (sites .exit)) (now (streets .exit)) (now (nexts .exit)) (now (marks .exit)) i t) ⌝ }
+    ensures { λ _. ⌜ Agree (now (sites .entry)) (now (sites .exit)) count ⌝ }
 {
     let x = division[t] as usize;
     if marks[x] {
@@ -57,13 +60,15 @@ fn join(
     count + 1
 }
 
-// Every street later than s is looked at from the place i.
+// Every street later than s that is tight for the site of the place i is looked at from there, the last one first.
 fn scan(
     values: &[u32],
     prices: &[u32],
     w: usize,
     division: &[u8],
     s: usize,
+    tights: &[u16],
+    ends: &[u16],
     i: usize,
     count: usize,
     streets: &mut [u16],
@@ -74,13 +79,18 @@ fn scan(
     requires { ⌜ Scene (now values) (now prices) (now division) w ⌝ }
     requires { ⌜ Room w (now streets) (now nexts) (now sites) (now marks) ⌝ }
     requires { ⌜ (i < count) × (s < length (now division)) ⌝ }
+    requires { ⌜ Rows w (length (now division)) (now tights) (now ends) × Rowed (cell (now values) w) (at (now prices)) (now division) (now tights) (now ends) ⌝ }
     requires { ⌜ Grown (cell (now values) w) (at (now prices)) (now division) s w count (now sites) (now streets) (now nexts) (now marks) i ⌝ }
     ensures { λ r. ⌜ i < r ⌝ }
     ensures { λ r. ⌜ Grown (cell (now (values .entry)) w) (at (now (prices .entry))) (now (division .entry)) s w r
         (now (sites .exit)) (now (streets .exit)) (now (nexts .exit)) (now (marks .exit)) (i + 1) ⌝ }
 {
+    let y = sites[i] as usize;
+    let row = y * (division.len() + 1);
     let mut k = count;
-    for t in s + 1..division.len() {
+    let mut j = ends[y] as usize;
+    let mut t = tights[row + j] as usize;
+    while s < t {
         k = join(
             values,
             prices,
@@ -94,6 +104,8 @@ fn scan(
             sites,
             marks,
         );
+        j = j - 1;
+        t = tights[row + j] as usize;
     }
     k
 }
@@ -126,6 +138,8 @@ pub fn grow(
     w: usize,
     division: &[u8],
     s: usize,
+    tights: &[u16],
+    ends: &[u16],
     streets: &mut [u16],
     nexts: &mut [u8],
     sites: &mut [u8],
@@ -134,6 +148,7 @@ pub fn grow(
     requires { ⌜ Scene (now values) (now prices) (now division) w ⌝ }
     requires { ⌜ Room w (now streets) (now nexts) (now sites) (now marks) ⌝ }
     requires { ⌜ s < length (now division) ⌝ }
+    requires { ⌜ Rows w (length (now division)) (now tights) (now ends) × Rowed (cell (now values) w) (at (now prices)) (now division) (now tights) (now ends) ⌝ }
     ensures { λ r. ⌜ Grown (cell (now (values .entry)) w) (at (now (prices .entry))) (now (division .entry)) s w r
         (now (sites .exit)) (now (streets .exit)) (now (nexts .exit)) (now (marks .exit)) r ⌝ }
 {
@@ -147,6 +162,8 @@ pub fn grow(
             w,
             division,
             s,
+            tights,
+            ends,
             i,
             count,
             streets,

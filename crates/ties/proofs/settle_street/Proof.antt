@@ -4,16 +4,16 @@ use native.Mathlib.Omega.{arith}
 use borrow.Author.Tests.{not-true}
 use Rattle.ties.proofs.Growth.{placed-fits}
 use Rattle.ties.proofs.Homeward.{way-home}
-use Rattle.ties.proofs.Settled.{scene-of, standing-still, standing-turned}
+use Rattle.ties.proofs.Settled.{scene-of, rowed-of, standing-still, listed-turned, standing-turned}
 use Rattle.ties.proofs.settle_street.Statement.{statement}
 use Rattle.ties.proofs.settle_street.Tie as tie
 
 movable-requires : tie.Need-movable-requires
 movable-requires c κs =
-    let start = c .before .before .before .before .before .before .before .before .before in
+    let start = c .before .before .before .before .before .before .before .before .before .before .before in
     let a = start .args in
     let p = start .pre in
-    let scene = scene-of (a .prices .now) (a .division .now) (p .0) (p .1 .0) (p .1 .1 .1 .1 .within) in
+    let scene = scene-of (a .prices .now) (a .division .now) (p .0) (p .1 .0) (p .1 .1 .1 .1 .1 .within) in
     (scene, p .1 .1 .1 .0)
 
 same-length : tie.Need-same-length
@@ -21,30 +21,32 @@ same-length c = search needs
 
 returns : tie.Need-returns
 returns c =
-    let start = c .before .before .before .before .before .before .before .before .before .before .before in
+    let start = c .before .before .before .before .before .before .before .before .before .before .before .before .before in
     let a = start .args in
     let p = start .pre in
     let loose = c .before .movable .ensures (not-true _ (c .if1 .taken)) in
-    standing-still (a .shares .now) (a .division .now) (a .s) (p .0 .nobody) (p .1 .1 .1 .0) loose (p .1 .1 .1 .1)
+    (standing-still (a .shares .now) (a .division .now) (a .s) (p .0 .nobody) (p .1 .1 .1 .0) loose (p .1 .1 .1 .1 .1), p .1 .1 .1 .1 .0 .1)
 
 grow-requires : tie.Need-grow-requires
 grow-requires c κs =
-    let start = c .before .before .before .before .before .before .before .before .before .before .before .before .before .before .before .before in
+    let start = c .before .before .before .before .before .before .before .before .before .before .before .before .before .before .before .before .before .before in
     let a = start .args in
     let p = start .pre in
-    let scene = scene-of (a .prices .now) (a .division .now) (p .0) (p .1 .0) (p .1 .1 .1 .1 .within) in
-    (scene, (p .1 .1 .0, p .1 .1 .1 .0))
+    let scene = scene-of (a .prices .now) (a .division .now) (p .0) (p .1 .0) (p .1 .1 .1 .1 .1 .within) in
+    let listed = p .1 .1 .1 .1 .0 in
+    let rowed = rowed-of (a .tights .now) (a .ends .now) (a .division .now) (p .0) (p .1 .1 .1 .1 .1 .within) (listed .1) in
+    (scene, (p .1 .1 .0, (p .1 .1 .1 .0, (listed .0, rowed))))
 
 lowest-requires : tie.Need-lowest-requires
 lowest-requires c κs =
     let t = c .before .before .before .before .before .before .before .before .before .before in
     let g = t .grow .ensures in
-    let start = t .before .before .before .before .before .before .before .before .before .before .before .before .before .before .before .before .before in
+    let start = t .before .before .before .before .before .before .before .before .before .before .before .before .before .before .before .before .before .before .before in
     let a = start .args in
     let p = start .pre in
-    let scene = scene-of (a .prices .now) (a .division .now) (p .0) (p .1 .0) (p .1 .1 .1 .1 .within) in
+    let scene = scene-of (a .prices .now) (a .division .now) (p .0) (p .1 .0) (p .1 .1 .1 .1 .1 .within) in
     let fits = placed-fits (g .placed) in
-    let room = t .grow .kept .1 .1 .1 .1 .1 .1 .1 .0 in
+    let room = t .grow .kept .1 .1 .1 .1 .1 .1 .1 .1 .1 .0 in
     (scene, ((p .1 .1 .1 .0, g .some, omega (arith, p .1 .1 .0 .sites-fit), g .queue .home), g .placed .within))
 
 turn-requires : tie.Need-turn-requires
@@ -54,12 +56,12 @@ turn-requires c κs =
     let t = u .before .before .before .before .before .before .before .before .before .before .before in
     let g = t .grow .ensures in
     let k = t .grow .kept in
-    let p = t .before .before .before .before .before .before .before .before .before .before .before .before .before .before .before .before .before .pre in
+    let p = t .before .before .before .before .before .before .before .before .before .before .before .before .before .before .before .before .before .before .before .pre in
     let room = p .1 .1 .0 in
     let fits = placed-fits (g .placed) in
-    let streets = k .1 .1 .1 .1 .1 .0 in
-    let nexts = k .1 .1 .1 .1 .1 .1 .0 in
-    let sites = k .1 .1 .1 .1 .1 .1 .1 .0 in (
+    let streets = k .1 .1 .1 .1 .1 .1 .1 .0 in
+    let nexts = k .1 .1 .1 .1 .1 .1 .1 .1 .0 in
+    let sites = k .1 .1 .1 .1 .1 .1 .1 .1 .1 .0 in (
       (p .1 .1 .1 .0, omega (arith, room .streets-fit, l .within), omega (arith, room .nexts-fit, l .within), omega (arith, room .sites-fit, l .within)),
       way-home (u .lowest .result) (l .within) g,
     )
@@ -71,33 +73,38 @@ same-length-3 : tie.Need-same-length-3
 same-length-3 c =
     let u = c .before .before .before .before .before .before .before in
     let t = u .before .before .before .before .before .before .before .before .before .before .before in
-    t .grow .kept .1 .1 .1 .1 .1 .0
+    t .grow .kept .1 .1 .1 .1 .1 .1 .1 .0
 
 same-length-4 : tie.Need-same-length-4
 same-length-4 c =
     let u = c .before .before .before .before .before .before .before in
     let t = u .before .before .before .before .before .before .before .before .before .before .before in
-    t .grow .kept .1 .1 .1 .1 .1 .1 .0
+    t .grow .kept .1 .1 .1 .1 .1 .1 .1 .1 .0
 
 same-length-5 : tie.Need-same-length-5
 same-length-5 c =
     let u = c .before .before .before .before .before .before .before in
     let t = u .before .before .before .before .before .before .before .before .before .before .before in
-    t .grow .kept .1 .1 .1 .1 .1 .1 .1 .0
+    t .grow .kept .1 .1 .1 .1 .1 .1 .1 .1 .1 .0
 
 same-length-6 : tie.Need-same-length-6
 same-length-6 c =
     let u = c .before .before .before .before .before .before .before in
     let t = u .before .before .before .before .before .before .before .before .before .before .before in
-    t .grow .kept .1 .1 .1 .1 .1 .1 .1 .1 .0
+    t .grow .kept .1 .1 .1 .1 .1 .1 .1 .1 .1 .1 .0
 
 returns-2 : tie.Need-returns-2
 returns-2 c =
     let t = c .before .before in
     let u = t .before .before .before .before .before in
     let w = u .before .before .before .before .before .before .before .before .before .before .before in
-    let p = w .before .before .before .before .before .before .before .before .before .before .before .before .before .before .before .before .before .pre in
-    standing-turned (p .1 .1 .1 .1) (p .1 .1 .1 .0) (w .grow .ensures) (u .lowest .ensures) (t .turn .ensures)
+    let start = w .before .before .before .before .before .before .before .before .before .before .before .before .before .before .before .before .before .before .before in
+    let a = start .args in
+    let p = start .pre in
+    let h = p .1 .1 .1 .1 .1 in
+    let l = p .1 .1 .1 .0 in
+    let listed = listed-turned h l (w .grow .ensures) (u .lowest .ensures) (t .turn .ensures) (a .shares .now) _ (a .tights .now) (a .ends .now) in
+    (standing-turned h l (w .grow .ensures) (u .lowest .ensures) (t .turn .ensures), listed (p .1 .1 .1 .1 .0 .1))
 
 pub settle-street-spec : {M : Type 1} → statement M
 settle-street-spec =

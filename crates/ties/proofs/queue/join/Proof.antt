@@ -1,6 +1,6 @@
 -- `ties::queue::join` meets its contract. Assumes nothing.
 use borrow.Author.Needs.{needs}
-use mathlib.Core.Path.{sym, _∙_}
+use mathlib.Core.Path.{refl, sym, _∙_}
 use mathlib.Core.Bool.{true≢false}
 use native.Mathlib.Omega.{arith}
 use borrow.Author.Tests.{not-true, not-false}
@@ -30,7 +30,7 @@ slice-read-if1 c =
     e .flagged
 
 returns : tie.Need-returns
-returns c = λ s l h. growing-keep h (λ n. absurd (true≢false (sym (c .if1 .taken) ∙ n)))
+returns c = (λ s l h. growing-keep h (λ n. absurd (true≢false (sym (c .if1 .taken) ∙ n))), λ j l. refl)
 
 slice-read-y : tie.Need-slice-read-y
 slice-read-y c =
@@ -55,7 +55,7 @@ tight-requires c κs =
     (p .0, (p .1 .1 .1 .1, p .1 .1 .0 .within (start .args .i) (p .1 .1 .1 .0)))
 
 returns-2 : tie.Need-returns-2
-returns-2 c = λ s l h. growing-keep h (λ n. c .before .tight .ensures .1 (not-true _ (c .if2 .taken)))
+returns-2 c = (λ s l h. growing-keep h (λ n. c .before .tight .ensures .1 (not-true _ (c .if2 .taken))), λ j l. refl)
 
 slice-write-marks : tie.Need-slice-write-marks
 slice-write-marks c =
@@ -158,7 +158,7 @@ returns-3 c =
     let sites = grows (a .sites .now) (a .count) _ (r .site) in
     let streets = grows (a .streets .now) (a .count) _ (r .street) in
     let nexts = grows (a .nexts .now) (a .count) _ (r .next) in
-    λ s l h. growing-more h l (p .1 .1 .1 .1) (e .small) (e .flagged) new tight _ _ _ sites streets nexts
+    (λ s l h. growing-more h l (p .1 .1 .1 .1) (e .small) (e .flagged) new tight _ _ _ sites streets nexts, sites .same)
 
 pub join-spec : {M : Type 1} → statement M
 join-spec =
