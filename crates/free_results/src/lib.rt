@@ -21,9 +21,9 @@ fn planned(n: usize, m: usize, scores: &[u16], rows: &[u8], sites: &[u8], k: usi
     ensures sites { λ r. ⌜ (r .count ≡ length (now (sites .entry)) + k) × (sitesOf r ≡ greedy (value m (now (scores .entry)) (now (rows .entry))) n m k (now (sites .entry))) ⌝ }
     ensures held { λ r. ⌜ Held (value m (now (scores .entry)) (now (rows .entry))) n r ⌝ }
 {
-    let size = n * (m + 1);
-    let mut table = [0u32; 26000];
-    values::fill_values(n, m, scores, rows, &mut table[..size]);
+    let size = (m + 1) * n;
+    let mut table = [0u16; 26000];
+    site_values::fill_values(n, m, scores, rows, &mut table[..size]);
     free_rounds::rounds(&table[..size], n, m, sites, k)
 }
 

@@ -17,10 +17,12 @@ use Rattle.counting.specs.Buffers.{Mapped}
 use Rattle.counting.proofs.Choice.{greatest-same}
 use Rattle.counting.proofs.Marking.{marks-none, marks-more}
 use Rattle.counting.proofs.Sums.{sumOf-same, at-past}
+use Rattle.site_values.specs.Table.{siteValue}
 use Rattle.free_plan.specs.Greedy.{best, total, totalWith, pick}
-use Rattle.free_plan.proofs.Totals.{best-append, best-le}
+use Rattle.free_plan.proofs.Totals.{best-append, best-le, total-step, total-bound}
+use Rattle.free_rounds.proofs.Turns.{bounded-same}
 use Rattle.free_rounds.specs.declared.State.{State}
-use Rattle.free_rounds.specs.Held.{Held, Scores, sitesOf, emptyState, unflagged}
+use Rattle.free_rounds.specs.Held.{Held, Bounded, Bounds, Scores, sitesOf, emptyState, unflagged, withSite}
 
 -- the empty state holds nothing
 pub held-none : (v : ℕ → ℕ → ℕ) (n : ℕ) → Held v n emptyState
@@ -36,8 +38,22 @@ held-none v n =
     nought s (yes l) = getD-replicate 400 s 0 0 l
     nought s (no l) = at-past (replicate 400 0) s (rw length-replicate (omega arith))
 
-pub start-holds : (v : ℕ → ℕ → ℕ) (n : ℕ) (state : State) → state ≡ emptyState → (state .count ≡ 0) × (sitesOf state ≡ []) × Held v n state
-start-holds v n state e = rw e (refl, refl, held-none v n)
+-- no site raises the total of none by more than 400 times the greatest value
+bounds-none : (v : ℕ → ℕ → ℕ) (n : ℕ) → n ≤ 400 → ((s a : ℕ) → v s a ≤ 99000) → Bounds v n emptyState
+bounds-none v n few low =
+    record {
+      size = length-replicate {A = ℕ} 65 39600000;
+      right = λ a l. omega (arith, getD-replicate {A = ℕ} 65 a 39600000 0 l, total-bound v n (a ∷ []) 99000 (λ s k b. low s b));
+      small = λ a. small a (decLt a 65);
+    }
+  where
+    small : (a : ℕ) → Dec (a < 65) → at (replicate 65 39600000) a ≤ 39600000
+    small a (yes l) = omega (arith, getD-replicate {A = ℕ} 65 a 39600000 0 l)
+    small a (no l) = omega (arith, at-past (replicate 65 39600000) a (rw length-replicate (omega arith)))
+
+pub start-holds : (v : ℕ → ℕ → ℕ) (n : ℕ) (state : State) → n ≤ 400 → ((s a : ℕ) → v s a ≤ 99000) → state ≡ emptyState
+    → (state .count ≡ 0) × (sitesOf state ≡ []) × Held v n state × Bounds v n state
+start-holds v n state few low e = rw e (refl, refl, held-none v n, bounds-none v n few low)
 
 -- the state with one site more
 abbrev pub stateWith : State → ℕ → List ℕ → State
@@ -47,6 +63,7 @@ stateWith state site bests =
       count = state .count + 1;
       marks = set (state .marks) site true;
       bests = bests;
+      bounds = state .bounds;
     }
 
 pub sites-more : (v : ℕ → ℕ → ℕ) (n : ℕ) (state : State) (site : ℕ) (bests : List ℕ) → Held v n state → state .count < 64
@@ -57,9 +74,10 @@ sites-more v n state site bests h l = rw add-one (take-suc-set (state .chosen) (
 best-with : (f : ℕ → ℕ) (S : List ℕ) (a : ℕ) → max (best f S) (f a) ≡ best f (S ++ (a ∷ []))
 best-with f S a = sym (best-append f S (a ∷ []) ∙ omega arith)
 
-pub held-more : (v : ℕ → ℕ → ℕ) (n : ℕ) (state : State) (site : ℕ) (part bests : List ℕ) → Held v n state → state .count < 64 → site < 256 → n ≤ 400
-    → Mapped (λ s x. max x (v s site)) (take n (state .bests)) part (length (take n (state .bests))) → bests ≡ part ++ drop n (state .bests) → Held v n (stateWith state site bests)
-held-more v n state site part bests h l small few t e =
+pub held-more : (v : ℕ → ℕ → ℕ) (n : ℕ) (state : State) (site : ℕ) (row part bests : List ℕ) → Held v n state → state .count < 64 → site < 256 → n ≤ 400
+    → ((s : ℕ) → s < n → at row s ≡ v s site) → Mapped (λ s x. max x (at row s)) (take n (state .bests)) part (length (take n (state .bests)))
+    → bests ≡ part ++ drop n (state .bests) → Held v n (stateWith state site bests)
+held-more v n state site row part bests h l small few same t e =
     let sites = sites-more v n state site bests h l in
     let whole : length (take n (state .bests)) ≡ n = length-take-le n (state .bests) (omega (arith, h .bests-size)) in
     let front : length part ≡ n = t .size ∙ whole in
@@ -70,8 +88,33 @@ held-more v n state site part bests h l small few t e =
       bests = λ s ls.
           let now : at bests s ≡ at part s = ap (λ (b : List ℕ). at b s) e ∙ List·getD-append part (drop n (state .bests)) 0 s (omega arith) in
           let old : at (take n (state .bests)) s ≡ best (v s) (sitesOf state) = getD-take n (state .bests) s 0 ls ∙ h .bests s ls in
-          now ∙ t .done s (omega arith) ∙ ap (λ (x : ℕ). max x (v s site)) old ∙ best-with (v s) (sitesOf state) site ∙ ap (λ (S : List ℕ). best (v s) S) (sym sites);
+          now ∙ t .done s (omega arith) ∙ ap (λ (x : ℕ). max x (at row s)) old ∙ ap (λ (x : ℕ). max (best (v s) (sitesOf state)) x) (same s ls) ∙ best-with (v s) (sitesOf state) site ∙ ap (λ (S : List ℕ). best (v s) S) (sym sites);
     }
+
+-- two sites more score a street the same in either order
+swapped : (f : ℕ → ℕ) (S : List ℕ) (a b : ℕ) → best f (S ++ (a ∷ b ∷ [])) ≡ best f ((S ++ (b ∷ [])) ++ (a ∷ []))
+swapped f S a b = omega (arith, best-append f S (a ∷ b ∷ []), best-append f (S ++ (b ∷ [])) (a ∷ []), best-append f S (b ∷ []))
+
+-- with one site more no other raises the total by more than it did
+rise-falls : (v : ℕ → ℕ → ℕ) (n : ℕ) (S : List ℕ) (a b : ℕ) → totalWith v n (S ++ (b ∷ [])) a + total v n S ≤ totalWith v n S b + totalWith v n S a
+rise-falls v n S a b =
+    omega (arith, total-step v n S (b ∷ []) a, sumOf-same n (λ s. best (v s) (S ++ (a ∷ b ∷ []))) (λ s. best (v s) ((S ++ (b ∷ [])) ++ (a ∷ []))) (λ s l. swapped (v s) S a b))
+
+-- so the bounds stay bounds
+pub bounds-more : (v : ℕ → ℕ → ℕ) (n : ℕ) (state : State) (site : ℕ) (bests : List ℕ) → Held v n state → state .count < 64
+    → Bounds v n state → Bounds v n (stateWith state site bests)
+bounds-more v n state site bests h l b =
+    rw (sites-more v n state site bests h l)
+    (record { size = b .size; right = λ a k. omega (arith, b .right a k, rise-falls v n (sitesOf state) a site); small = b .small })
+
+-- the state with other bounds
+abbrev pub stateBounds : State → List ℕ → State
+stateBounds state bounds =
+    record { chosen = state .chosen; count = state .count; marks = state .marks; bests = state .bests; bounds = bounds }
+
+-- it holds what it did
+pub held-bounds : (v : ℕ → ℕ → ℕ) (n : ℕ) (state : State) (bounds : List ℕ) → Held v n state → Held v n (stateBounds state bounds)
+held-bounds v n state bounds h = record { chosen-size = h .chosen-size; bests-size = h .bests-size; marks = h .marks; bests = h .bests }
 
 -- each street's best is a score
 pub bests-small : (v : ℕ → ℕ → ℕ) (n : ℕ) (state : State) → Held v n state → ((s a : ℕ) → v s a ≤ 99000) → Scores (take n (state .bests))
@@ -81,17 +124,36 @@ bests-small v n state h low s = go (decLt s n)
     go (yes l) = rw (getD-take n (state .bests) s 0 l, h .bests s l) (best-le (v s) 99000 (sitesOf state) (λ a i. low s a))
     go (no l) = rw (at-past (take n (state .bests)) s (omega (arith, length-take n (state .bests)))) (omega arith)
 
--- the site of greatest sum among those not flagged is the round's choice
-pub choice-is : (v : ℕ → ℕ → ℕ) (n m : ℕ) (state : State) → Held v n state → n ≤ 400 → m ≤ 64
-    → greatest (unflagged (state .marks)) (λ a. sumOf (length (take n (state .bests))) (λ s. max (at (take n (state .bests)) s) (v s a))) m ≡ pick v n m (sitesOf state)
-choice-is v n m state h low few =
+-- the sum of the better of best and value is the total with the site
+with-is : (values : List ℕ) (n : ℕ) (state : State) → Held (siteValue values n) n state → n ≤ 400 → (a : ℕ)
+    → withSite values (take n (state .bests)) a ≡ totalWith (siteValue values n) n (sitesOf state) a
+with-is values n state h low a =
     let whole : length (take n (state .bests)) ≡ n = length-take-le n (state .bests) (omega (arith, h .bests-size)) in
-    greatest-same (unflagged (state .marks)) (unchosen (sitesOf state)) _ (totalWith v n (sitesOf state)) m
-    (λ a l. ap (λ (t : Bool). ltb 0 a && not t) (h .marks .right a (omega arith)))
-    (λ a l y.
-    ap (λ (k : ℕ). sumOf k (λ s. max (at (take n (state .bests)) s) (v s a))) whole
-    ∙ sumOf-same n _ _ (λ s ls. ap (λ (x : ℕ). max x (v s a)) (getD-take n (state .bests) s 0 ls ∙ h .bests s ls) ∙ best-with (v s) (sitesOf state) a))
+    ap (λ (k : ℕ). sumOf k (λ s. max (at (take n (state .bests)) s) (siteValue values k s a))) whole
+    ∙ sumOf-same n _ _ (λ s ls. ap (λ (x : ℕ). max x (siteValue values n s a)) (getD-take n (state .bests) s 0 ls ∙ h .bests s ls) ∙ best-with (siteValue values n s) (sitesOf state) a)
+
+-- the site of greatest sum among those not flagged is the round's choice
+pub choice-is : (values : List ℕ) (n m : ℕ) (state : State) → Held (siteValue values n) n state → n ≤ 400 → m ≤ 64
+    → greatest (unflagged (state .marks)) (withSite values (take n (state .bests))) m ≡ pick (siteValue values n) n m (sitesOf state)
+choice-is values n m state h low few =
+    greatest-same (unflagged (state .marks)) (unchosen (sitesOf state)) _ (totalWith (siteValue values n) n (sitesOf state)) m
+    (λ a l. ap (λ (t : Bool). ltb 0 a && not t) (h .marks .right a (omega arith))) (λ a l y. with-is values n state h low a)
 
 -- the sum of the bests is the total of the sites
 pub total-is : (v : ℕ → ℕ → ℕ) (n : ℕ) (state : State) → Held v n state → sumOf n (at (take n (state .bests))) ≡ total v n (sitesOf state)
 total-is v n state h = sumOf-same n _ _ (λ s l. getD-take n (state .bests) s 0 l ∙ h .bests s l)
+
+-- the state's bounds as bounds of the sums of its bests, and back
+module _ (values : List ℕ) (n : ℕ) (state : State) (h : Held (siteValue values n) n state) (low : n ≤ 400) (bounds : List ℕ) where
+  so-is : sumOf (length (take n (state .bests))) (at (take n (state .bests))) ≡ total (siteValue values n) n (sitesOf state)
+  so-is =
+      ap (λ (k : ℕ). sumOf k (at (take n (state .bests)))) (length-take-le n (state .bests) (omega (arith, h .bests-size)))
+      ∙ total-is (siteValue values n) n state h
+
+  pub bounds-out : Bounded (totalWith (siteValue values n) n (sitesOf state)) (total (siteValue values n) n (sitesOf state)) bounds
+      → Bounded (withSite values (take n (state .bests))) (sumOf (length (take n (state .bests))) (at (take n (state .bests)))) bounds
+  bounds-out b = bounded-same _ _ bounds b _ _ (λ a. sym (with-is values n state h low a)) (sym so-is)
+
+  pub bounds-back : Bounded (withSite values (take n (state .bests))) (sumOf (length (take n (state .bests))) (at (take n (state .bests)))) bounds
+      → Bounded (totalWith (siteValue values n) n (sitesOf state)) (total (siteValue values n) n (sitesOf state)) bounds
+  bounds-back b = bounded-same _ _ bounds b _ _ (λ a. with-is values n state h low a) so-is

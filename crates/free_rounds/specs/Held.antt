@@ -3,13 +3,14 @@
 use mathlib.Core.Path.{_≡_}
 use mathlib.Core.Bool.{Bool, false, not, _&&_}
 use mathlib.Core.List.{List}
-use Prim.Native.Nat.{ℕ, _+_, _*_, _≤_, _<_, max}
+use Prim.Native.Nat.{ℕ, _+_, _≤_, _<_, max}
 use lib.Dec.{ltb}
 use lib.ListN.{length, getD, take, replicate}
 use Rattle.counting.specs.Words.{sumOf}
 use Rattle.counting.specs.Lists.{at}
 use Rattle.counting.specs.Marks.{Marks}
-use Rattle.free_plan.specs.Greedy.{best}
+use Rattle.site_values.specs.Table.{siteValue}
+use Rattle.free_plan.specs.Greedy.{best, total, totalWith}
 use Rattle.free_rounds.specs.declared.State.{State}
 
 -- the sites chosen so far, in order of choice
@@ -18,7 +19,7 @@ sitesOf state = take (state .count) (state .chosen)
 
 -- the state in which none is chosen
 abbrev pub emptyState : State
-emptyState = record { chosen = replicate 64 0; count = 0; marks = replicate 256 false; bests = replicate 400 0 }
+emptyState = record { chosen = replicate 64 0; count = 0; marks = replicate 256 false; bests = replicate 400 0; bounds = replicate 65 39600000 }
 
 -- the state holds the flags of its sites, and for each street the best score that they give it
 pub record Held (v : ℕ → ℕ → ℕ) (n : ℕ) (state : State) : Type 0 where
@@ -27,26 +28,30 @@ pub record Held (v : ℕ → ℕ → ℕ) (n : ℕ) (state : State) : Type 0 whe
   pub marks : Marks (state .marks) (sitesOf state)
   pub bests : (s : ℕ) → s < n → at (state .bests) s ≡ best (v s) (sitesOf state)
 
--- a street's row of values beside the sums of all sites: the sums have room for one value more
-pub record Row (row : List ℕ) (score : ℕ) (sums : List ℕ) : Type 0 where
-  pub size : length row ≡ length sums
-  pub small-score : score ≤ 99000
-  pub small : (a : ℕ) → at row a ≤ 99000
-  pub room : (a : ℕ) → at sums a ≤ 39600000
+-- a bound for each of the sites 0, 1, .., 64 of what it raises a total by, where `worth` is the total with a site besides
+pub record Bounded (worth : ℕ → ℕ) (so : ℕ) (bounds : List ℕ) : Type 0 where
+  pub size : length bounds ≡ 65
+  pub right : (a : ℕ) → a < 65 → worth a ≤ so + at bounds a
+  pub small : (a : ℕ) → at bounds a ≤ 39600000
+
+-- the state's bounds are bounds of what the sites raise its total by
+abbrev pub Bounds : (ℕ → ℕ → ℕ) → ℕ → State → Type 0
+Bounds v n state = Bounded (totalWith v n (sitesOf state)) (total v n (sitesOf state)) (state .bounds)
 
 -- each score is at most 99,000
 abbrev pub Scores : List ℕ → Type 0
 Scores scores = (s : ℕ) → at scores s ≤ 99000
 
--- so many sums, all 0
-abbrev pub Zeros : List ℕ → ℕ → Type 0
-Zeros sums n = (length sums ≡ n) × ((a : ℕ) → at sums a ≡ 0)
+-- the streets' bests beside as many values of a site
+pub record Beside (bests row : List ℕ) : Type 0 where
+  pub size : length row ≡ length bests
+  pub few : length bests ≤ 400
+  pub small-bests : Scores bests
+  pub small : Scores row
 
--- for each site the total over the first n streets with it besides
-pub record Summed (v : ℕ → ℕ → ℕ) (bests : List ℕ) (m : ℕ) (sums : List ℕ) (n : ℕ) : Type 0 where
-  pub size : length sums ≡ m + 1
-  pub right : (a : ℕ) → a ≤ m → at sums a ≡ sumOf n (λ s. max (at bests s) (v s a))
-  pub small : (a : ℕ) → at sums a ≤ n * 99000
+-- the total over the streets with a site besides, in a table by site
+abbrev pub withSite : List ℕ → List ℕ → ℕ → ℕ
+withSite values bests a = sumOf (length bests) (λ s. max (at bests s) (siteValue values (length bests) s a))
 
 -- whether a site is not flagged; 0 is no site
 abbrev pub unflagged : List Bool → ℕ → Bool

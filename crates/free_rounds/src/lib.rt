@@ -4,19 +4,21 @@ ghost use mathlib.Core.List.{_∷_, [], _++_};
 ghost use Prim.Native.Nat.{ℕ, _+_, _≤_, _<_};
 ghost use lib.ListN.{length};
 ghost use Rattle.counting.specs.Lists.{at};
-ghost use Rattle.values.specs.Table.{valueIn, Table};
+ghost use Rattle.site_values.specs.Table.{siteValue, Table};
 ghost use Rattle.free_plan.specs.Greedy.{pick, greedy};
-ghost use Rattle.free_rounds.specs.Held.{Held, sitesOf, emptyState};
+ghost use Rattle.free_rounds.specs.Held.{Held, Bounds, sitesOf, emptyState};
 
 pub mod pick;
 pub mod sums;
 
-// The sites chosen so far in order of choice, a flag for each of them, and the best score that they give each street.
+// The sites chosen so far in order of choice, a flag for each of them, the best score that they give each street,
+// and for each site a bound of what it would raise their total by.
 pub struct State {
     pub chosen: [u8; 64],
     pub count: usize,
     pub marks: [bool; 256],
-    pub bests: [u32; 400],
+    pub bests: [u16; 400],
+    pub bounds: [u32; 65],
 }
 
 impl State {
@@ -28,51 +30,56 @@ impl State {
             chosen: [0u8; 64],
             count: 0,
             marks: [false; 256],
-            bests: [0u32; 400],
+            bests: [0u16; 400],
+            bounds: [39600000u32; 65],
         }
     }
 
     // The state with one site more.
-    pub fn taking(mut self, values: &[u32], n: usize, m: usize, site: u8) -> Self
+    pub fn taking(mut self, values: &[u16], n: usize, m: usize, site: u8) -> Self
         requires { ⌜ Table n m (now values) ⌝ }
-        requires { ⌜ Held (valueIn (now values) m) n self ⌝ }
+        requires { ⌜ Held (siteValue (now values) n) n self × Bounds (siteValue (now values) n) n self ⌝ }
         requires { ⌜ (site ≤ m) × (self .count < 64) ⌝ }
         ensures sites { λ r. ⌜ (r .count ≡ self .count + 1) × (sitesOf r ≡ sitesOf self ++ (site ∷ [])) ⌝ }
-        ensures held { λ r. ⌜ Held (valueIn (now (values .entry)) m) n r ⌝ }
+        ensures held { λ r. ⌜ Held (siteValue (now (values .entry)) n) n r × Bounds (siteValue (now (values .entry)) n) n r ⌝ }
     {
         let at = self.count;
         let flag = site as usize;
         self.chosen[at] = site;
         self.count = at + 1;
         self.marks[flag] = true;
+        let from = flag * n;
+        let to = from + n;
         let mut bests = self.bests;
-        sums::raise(&mut bests[..n], values, m, flag);
+        sums::raise(&mut bests[..n], &values[from..to]);
         self.bests = bests;
         self
     }
 
     // One round: the site that raises the total most is added.
-    pub fn round(mut self, values: &[u32], n: usize, m: usize) -> Self
+    pub fn round(mut self, values: &[u16], n: usize, m: usize) -> Self
         requires { ⌜ Table n m (now values) ⌝ }
-        requires { ⌜ Held (valueIn (now values) m) n self ⌝ }
+        requires { ⌜ Held (siteValue (now values) n) n self × Bounds (siteValue (now values) n) n self ⌝ }
         requires { ⌜ self .count < m ⌝ }
-        ensures sites { λ r. ⌜ (r .count ≡ self .count + 1) × (sitesOf r ≡ sitesOf self ++ (pick (valueIn (now (values .entry)) m) n m (sitesOf self) ∷ [])) ⌝ }
-        ensures held { λ r. ⌜ Held (valueIn (now (values .entry)) m) n r ⌝ }
+        ensures sites { λ r. ⌜ (r .count ≡ self .count + 1) × (sitesOf r ≡ sitesOf self ++ (pick (siteValue (now (values .entry)) n) n m (sitesOf self) ∷ [])) ⌝ }
+        ensures held { λ r. ⌜ Held (siteValue (now (values .entry)) n) n r × Bounds (siteValue (now (values .entry)) n) n r ⌝ }
     {
         let bests = self.bests;
         let marks = self.marks;
-        let site = pick::choose(values, &bests[..n], m, &marks);
+        let mut bounds = self.bounds;
+        let site = pick::choose(values, &bests[..n], m, &marks, &mut bounds);
+        self.bounds = bounds;
         self = self.taking(values, n, m, site as u8);
         self
     }
 }
 
 // The state with the sites of a given list.
-fn taken(values: &[u32], n: usize, m: usize, sites: &[u8]) -> State
+fn taken(values: &[u16], n: usize, m: usize, sites: &[u8]) -> State
     requires { ⌜ Table n m (now values) ⌝ }
     requires { ⌜ (length (now sites) ≤ 64) × ((i : ℕ) → at (now sites) i ≤ m) ⌝ }
     ensures sites { λ r. ⌜ (r .count ≡ length (now (sites .entry))) × (sitesOf r ≡ now (sites .entry)) ⌝ }
-    ensures held { λ r. ⌜ Held (valueIn (now (values .entry)) m) n r ⌝ }
+    ensures held { λ r. ⌜ Held (siteValue (now (values .entry)) n) n r × Bounds (siteValue (now (values .entry)) n) n r ⌝ }
 {
     let mut state = State::empty();
     for i in 0..sites.len() {
@@ -82,11 +89,11 @@ fn taken(values: &[u32], n: usize, m: usize, sites: &[u8]) -> State
 }
 
 // The state after k rounds from a given list of sites.
-pub fn rounds(values: &[u32], n: usize, m: usize, sites: &[u8], k: usize) -> State
+pub fn rounds(values: &[u16], n: usize, m: usize, sites: &[u8], k: usize) -> State
     requires { ⌜ Table n m (now values) ⌝ }
     requires { ⌜ (length (now sites) + k ≤ m) × ((i : ℕ) → at (now sites) i ≤ m) ⌝ }
-    ensures sites { λ r. ⌜ (r .count ≡ length (now (sites .entry)) + k) × (sitesOf r ≡ greedy (valueIn (now (values .entry)) m) n m k (now (sites .entry))) ⌝ }
-    ensures held { λ r. ⌜ Held (valueIn (now (values .entry)) m) n r ⌝ }
+    ensures sites { λ r. ⌜ (r .count ≡ length (now (sites .entry)) + k) × (sitesOf r ≡ greedy (siteValue (now (values .entry)) n) n m k (now (sites .entry))) ⌝ }
+    ensures held { λ r. ⌜ Held (siteValue (now (values .entry)) n) n r ⌝ }
 {
     let mut state = taken(values, n, m, sites);
     for i in 0..k {

@@ -1,13 +1,13 @@
 // The choice of a round: the unchosen site with the greatest total, the lowest number on a tie.
 use crate::sums;
 ghost use mathlib.Core.Path.{_≡_};
-ghost use Prim.Native.Nat.{ℕ, _+_, _≤_, _<_, max};
+ghost use Prim.Native.Nat.{ℕ, _+_, _≤_, _<_};
 ghost use lib.ListN.{length};
 ghost use Rattle.counting.specs.Words.{sumOf, _unless_};
 ghost use Rattle.counting.specs.Lists.{at};
 ghost use Rattle.counting.specs.Choice.{greatest};
-ghost use Rattle.values.specs.Table.{valueIn, Table};
-ghost use Rattle.free_rounds.specs.Held.{Scores, unflagged, Better};
+ghost use Rattle.site_values.specs.Table.{Table};
+ghost use Rattle.free_rounds.specs.Held.{Scores, unflagged, Better, Bounded, withSite};
 
 // The best site so far, and its mark; site 0 while there is none.
 pub struct Found {
@@ -17,7 +17,7 @@ pub struct Found {
 
 // The mark of a site: 0 where it is taken, and 1 more than its sum where it is not.
 fn mark(sum: u32, taken: bool) -> u32
-    requires { ⌜ sum ≤ 39600000 ⌝ }
+    requires { ⌜ sum ≤ 79200000 ⌝ }
     ensures { λ r. ⌜ r ≡ (sum + 1) unless taken ⌝ }
 {
     if taken {
@@ -49,13 +49,27 @@ pub fn best_site(sums: &[u32], marks: &[bool], m: usize) -> usize
     found.site
 }
 
-// The same from the table of values and the streets' bests.
-pub fn choose(values: &[u32], bests: &[u32], m: usize, marks: &[bool]) -> usize
+// The same from the table of values and the streets' bests. A site that its bound keeps from being better is passed over: what a site
+// raises the total by never grows from round to round, so the rise that was found last bounds it.
+pub fn choose(values: &[u16], bests: &[u16], m: usize, marks: &[bool], bounds: &mut [u32]) -> usize
     requires { ⌜ Table (length (now bests)) m (now values) × Scores (now bests) × (length (now marks) ≡ 256) ⌝ }
-    ensures { λ r. ⌜ r ≡ greatest (unflagged (now (marks .entry))) (λ a. sumOf (length (now (bests .entry))) (λ s. max (at (now (bests .entry)) s) (valueIn (now (values .entry)) m s a))) m ⌝ }
+    requires { ⌜ Bounded (withSite (now values) (now bests)) (sumOf (length (now bests)) (at (now bests))) (now bounds) ⌝ }
+    ensures site { λ r. ⌜ r ≡ greatest (unflagged (now (marks .entry))) (withSite (now (values .entry)) (now (bests .entry))) m ⌝ }
+    ensures bounds { λ _. ⌜ Bounded (withSite (now (values .entry)) (now (bests .entry))) (sumOf (length (now (bests .entry))) (at (now (bests .entry)))) (now (bounds .exit)) ⌝ }
 {
-    let width = m + 1;
-    let mut sums = [0u32; 65];
-    sums::sum_streets(values, bests, m, &mut sums[..width]);
-    best_site(&sums[..width], marks, m)
+    let n = bests.len();
+    let total = sums::sum(bests);
+    let mut found = Found { site: 0, most: 0 };
+    for i in 0..m {
+        let a = i + 1;
+        let hope = mark(total + bounds[a], marks[a]);
+        if found.most < hope {
+            let from = a * n;
+            let to = from + n;
+            let sum = sums::sum_with(bests, &values[from..to]);
+            bounds[a] = sum - total;
+            found = better(found, a, mark(sum, marks[a]));
+        }
+    }
+    found.site
 }

@@ -1,4 +1,4 @@
--- The table of a survey's values, which every engine reads in place of the rows: for each street the values of the sites 0, 1, .., m.
+-- The table of a survey's values by street, which the balanced plan's engines read in place of the rows: for each street the values of the sites 0, 1, .., m.
 -- Assumes nothing.
 use Prim.Native.Nat.{ℕ, _+_, _*_, _≤_, _<_}
 use mathlib.Core.Path.{_≡_}

@@ -2,7 +2,7 @@
 use borrow.Author.Needs.{needs}
 use mathlib.Core.Path.{sym}
 use native.Mathlib.Omega.{arith}
-use Rattle.values.proofs.Tabled.{table-fits, table-blank, table-room, table-size, table-ready}
+use Rattle.site_values.proofs.Tabled.{table-fits, table-blank, table-room, table-size, table-ready}
 use Rattle.free_results.proofs.Tabled.{sites-planned, held-planned}
 use Rattle.free_results.proofs.Results.{at-most-list}
 use Rattle.free_results.proofs.planned.Statement.{statement}

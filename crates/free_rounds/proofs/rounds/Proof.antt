@@ -5,16 +5,16 @@ use mathlib.Core.List.{List, [], _∷_, _++_}
 use Prim.Native.Nat.{ℕ, _≤_, _-_, _+_}
 use native.Mathlib.Omega.{arith}
 use lib.ListN.{length}
-use Rattle.values.specs.Table.{valueIn}
+use Rattle.site_values.specs.Table.{siteValue}
 use Rattle.free_plan.specs.Greedy.{pick, greedy}
 use Rattle.free_plan.proofs.Sites.{greedy-next}
-use Rattle.free_rounds.specs.Held.{Held, sitesOf}
+use Rattle.free_rounds.specs.Held.{Held, Bounds, sitesOf}
 use Rattle.free_rounds.proofs.rounds.Statement.{statement}
 use Rattle.free_rounds.proofs.rounds.Tie as tie
 
 abbrev Inv-loop : tie.InvT-loop
 Inv-loop values n m sites k state₀ i₀ state i =
-    (i ≤ k) × (state .count ≡ length sites + i) × (sitesOf state ≡ greedy (valueIn values m) n m i sites) × Held (valueIn values m) n state
+    (i ≤ k) × (state .count ≡ length sites + i) × (sitesOf state ≡ greedy (siteValue values n) n m i sites) × Held (siteValue values n) n state × Bounds (siteValue values n) n state
 
 abbrev μ-loop : tie.MeasureT-loop
 μ-loop values n m sites k state₀ i₀ state i = k - i
@@ -23,10 +23,10 @@ taken-requires : tie.Need-taken-requires Inv-loop μ-loop
 taken-requires c κs = let p = c .before .before .pre in (p .0, (omega (arith, p .1 .0, p .0 .few-sites), p .1 .1))
 
 loop-holds : tie.Need-loop-holds Inv-loop μ-loop
-loop-holds c = let t = c .taken .ensures in (omega arith, omega (arith, t .0 .0), t .0 .1, t .1)
+loop-holds c = let t = c .taken .ensures in (omega arith, omega (arith, t .0 .0), t .0 .1, t .1 .0, t .1 .1)
 
 round-requires : tie.Need-round-requires Inv-loop μ-loop
-round-requires c κs = let l = c .before .loop in let p = c .before .before .before .before .before .pre in (p .0, (l .inv .3, omega (arith, l .inv .1, p .1 .0)))
+round-requires c κs = let l = c .before .loop in let p = c .before .before .before .before .before .pre in (p .0, ((l .inv .3, l .inv .4), omega (arith, l .inv .1, p .1 .0)))
 
 add-i : tie.Need-add-i Inv-loop μ-loop
 add-i c = search needs
@@ -39,11 +39,12 @@ loop-again c =
     let a = c .before .before .before .before .before .before .args in
     let l = c .before .before .loop in
     let t = c .round .ensures in
-    let v = valueIn (a .values .now) (a .m) in (
+    let v = siteValue (a .values .now) (a .n) in (
       omega arith,
       omega (arith, t .0 .0, l .inv .1),
       t .0 .1 ∙ ap (λ (S : List ℕ). S ++ (pick v (a .n) (a .m) S ∷ [])) (l .inv .2) ∙ sym (greedy-next v (a .n) (a .m) (l .i) (a .sites .now)),
-      t .1,
+      t .1 .0,
+      t .1 .1,
     )
 
 returns : tie.Need-returns Inv-loop μ-loop
@@ -51,7 +52,7 @@ returns c =
     let a = c .before .before .before .before .before .args in
     let l = c .before .loop in
     let e : l .i ≡ a .k = omega arith in
-    ((omega (arith, l .inv .1), l .inv .2 ∙ ap (λ (x : ℕ). greedy (valueIn (a .values .now) (a .m)) (a .n) (a .m) x (a .sites .now)) e), l .inv .3)
+    ((omega (arith, l .inv .1), l .inv .2 ∙ ap (λ (x : ℕ). greedy (siteValue (a .values .now) (a .n)) (a .n) (a .m) x (a .sites .now)) e), l .inv .3)
 
 pub rounds-spec : {M : Type 1} → statement M
 rounds-spec =

@@ -5,8 +5,8 @@ use mathlib.Core.List.{List, _∷_, [], _++_}
 use Prim.Native.Nat.{ℕ, _≤_, _-_, _+_}
 use native.Mathlib.Omega.{arith}
 use lib.ListN.{length, take, getD}
-use Rattle.values.specs.Table.{valueIn}
-use Rattle.free_rounds.specs.Held.{Held, sitesOf}
+use Rattle.site_values.specs.Table.{siteValue}
+use Rattle.free_rounds.specs.Held.{Held, Bounds, sitesOf}
 use Rattle.free_rounds.proofs.Rounded.{start-holds}
 use Rattle.counting.proofs.Sums.{take-next}
 use lib.Seq.{take-all}
@@ -15,7 +15,7 @@ use Rattle.free_rounds.proofs.taken.Tie as tie
 
 abbrev Inv-loop : tie.InvT-loop
 Inv-loop values n m sites state₀ i₀ i-end state i =
-    (i ≤ i-end) × (i-end ≡ length sites) × (state .count ≡ i) × (sitesOf state ≡ take i sites) × Held (valueIn values m) n state
+    (i ≤ i-end) × (i-end ≡ length sites) × (state .count ≡ i) × (sitesOf state ≡ take i sites) × Held (siteValue values n) n state × Bounds (siteValue values n) n state
 
 abbrev μ-loop : tie.MeasureT-loop
 μ-loop values n m sites state₀ i₀ i-end state i = i-end - i
@@ -26,8 +26,9 @@ empty-requires c κs = search needs
 loop-holds : tie.Need-loop-holds Inv-loop μ-loop
 loop-holds c =
     let a = c .before .before .before .args in
-    let t = start-holds (valueIn (a .values .now) (a .m)) (a .n) (c .empty .result) (c .empty .ensures) in
-    (omega arith, refl, t .0, t .1, t .2)
+    let p = c .before .before .before .pre in
+    let t = start-holds (siteValue (a .values .now) (a .n)) (a .n) (c .empty .result) (p .0 .few-streets) (λ s x. p .0 .small _) (c .empty .ensures) in
+    (omega arith, refl, t .0, t .1, t .2, t .3)
 
 shared-slice-read-taking : tie.Need-shared-slice-read-taking Inv-loop μ-loop
 shared-slice-read-taking c = search needs
@@ -36,7 +37,7 @@ taking-requires : tie.Need-taking-requires Inv-loop μ-loop
 taking-requires c κs =
     let l = c .before .before .loop in
     let p = c .before .before .before .before .before .before .pre in
-    (p .0, (l .inv .4, (p .1 .1 (l .i), omega (arith, l .inv .2, p .1 .0))))
+    (p .0, ((l .inv .4, l .inv .5), (p .1 .1 (l .i), omega (arith, l .inv .2, p .1 .0))))
 
 add-i : tie.Need-add-i Inv-loop μ-loop
 add-i c = search needs
@@ -53,14 +54,15 @@ loop-again c =
       refl,
       t .0 .0 ∙ ap (λ (x : ℕ). x + 1) (l .inv .2),
       t .0 .1 ∙ ap (λ (S : List ℕ). S ++ (getD sites (l .i) 0 ∷ [])) (l .inv .3) ∙ sym (take-next sites (l .i) (omega arith)),
-      t .1,
+      t .1 .0,
+      t .1 .1,
     )
 
 returns : tie.Need-returns Inv-loop μ-loop
 returns c =
     let sites = c .before .before .before .before .before .args .sites .now in
     let l = c .before .loop in
-    ((omega (arith, l .inv .2), l .inv .3 ∙ take-all (l .i) sites (omega arith)), l .inv .4)
+    ((omega (arith, l .inv .2), l .inv .3 ∙ take-all (l .i) sites (omega arith)), (l .inv .4, l .inv .5))
 
 pub taken-spec : {M : Type 1} → statement M
 taken-spec =

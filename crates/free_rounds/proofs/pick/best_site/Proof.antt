@@ -1,5 +1,6 @@
 -- `free_rounds::pick::best_site` meets its contract. Assumes nothing.
 use borrow.Author.Needs.{needs}
+use mathlib.Core.Path.{refl}
 use Prim.Native.Nat.{_≤_, _-_, _+_}
 use native.Mathlib.Omega.{arith}
 use Rattle.counting.specs.Lists.{at}
@@ -17,7 +18,7 @@ abbrev μ-loop : tie.MeasureT-loop
 μ-loop sums marks m found₀ i₀ found i = m - i
 
 loop-holds : tie.Need-loop-holds Inv-loop μ-loop
-loop-holds c = let a = c .before .before .args in (search needs, marks-start (a .sums .now) (a .marks .now))
+loop-holds c = let a = c .before .before .args in (search needs, marks-start (at (a .sums .now)) (a .marks .now))
 
 add-a : tie.Need-add-a Inv-loop μ-loop
 add-a c = search needs
@@ -32,7 +33,7 @@ shared-slice-read-mark-2 : tie.Need-shared-slice-read-mark-2 Inv-loop μ-loop
 shared-slice-read-mark-2 c = search needs
 
 mark-requires : tie.Need-mark-requires Inv-loop μ-loop
-mark-requires c κs = c .before .before .before .before .before .before .pre .3 (c .before .before .before .loop .i + 1)
+mark-requires c κs = omega (arith, c .before .before .before .before .before .before .pre .3 (c .before .before .before .loop .i + 1))
 
 better-requires : tie.Need-better-requires Inv-loop μ-loop
 better-requires c κs = search needs
@@ -47,13 +48,13 @@ loop-again : tie.Need-loop-again Inv-loop μ-loop
 loop-again c =
     let l = c .before .before .before .before .before .loop in
     let a = c .before .before .before .before .before .before .before .before .args in
-    (omega arith, better-turn (l .inv .1) (mark-is (a .sums .now) (a .marks .now) (l .i) _ (c .before .mark .ensures)) (c .better .ensures))
+    (omega arith, better-turn (l .inv .1) (mark-is (at (a .sums .now)) (a .marks .now) (l .i) _ _ refl (c .before .mark .ensures)) (c .better .ensures))
 
 returns : tie.Need-returns Inv-loop μ-loop
 returns c =
     let l = c .before .loop in
     let a = c .before .before .before .before .args in
-    marks-end (a .sums .now) (a .marks .now) (l .i) (a .m) _ _ (omega arith) (omega arith) (l .inv .1)
+    marks-end (at (a .sums .now)) (a .marks .now) (l .i) (a .m) _ _ (omega arith) (omega arith) (l .inv .1)
 
 pub best-site-spec : {M : Type 1} → statement M
 best-site-spec =

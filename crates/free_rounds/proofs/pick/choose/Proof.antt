@@ -1,67 +1,206 @@
 -- `free_rounds::pick::choose` meets its contract. Assumes nothing.
 use borrow.Author.Needs.{needs}
-use mathlib.Core.Path.{sym}
+use mathlib.Core.Path.{_≡_, refl, sym, _∙_}
+use mathlib.Core.Logic.{⊎-elim}
+use Prim.Native.Nat.{_≤_, _<_, _-_, _+_, _*_}
+use native.Mathlib.Omega.{arith}
 use lib.ListN.{length}
-use Rattle.values.specs.Table.{valueIn}
-use Rattle.free_rounds.proofs.Turns.{sums-blank, sums-room, sums-size, sums-ready, sums-chosen}
+use Rattle.counting.specs.Words.{sumOf}
+use Rattle.counting.specs.Lists.{at}
+use Rattle.counting.specs.Choice.{mark}
+use Rattle.counting.proofs.Choice.{Best}
+use Rattle.free_rounds.specs.Held.{Bounded, unflagged, withSite}
+use Rattle.free_rounds.proofs.Turns.{either-way, better-turn, pass-turn, mark-is, marks-start, marks-end, bounded-set, row-ends, row-beside, row-sum, with-small, with-most}
 use Rattle.free_rounds.proofs.pick.choose.Statement.{statement}
 use Rattle.free_rounds.proofs.pick.choose.Tie as tie
 
-add-width : tie.Need-add-width
-add-width c = search needs
+abbrev Inv-loop : tie.InvT-loop
+Inv-loop values bests m marks bounds₀ n total found₀ i₀ bounds found i =
+    (i ≤ m) × (n ≡ length bests) × (total ≡ sumOf (length bests) (at bests)) × Bounded (withSite values bests) (sumOf (length bests) (at bests)) bounds
+    × Best (mark (unflagged marks) (withSite values bests)) i (found .site) (found .most)
 
-array-borrow-prefix-sums : tie.Need-array-borrow-prefix-sums
-array-borrow-prefix-sums c = search needs
+abbrev μ-loop : tie.MeasureT-loop
+μ-loop values bests m marks bounds₀ n total found₀ i₀ bounds found i = m - i
 
-slice-aggregate-sum-streets : tie.Need-slice-aggregate-sum-streets
-slice-aggregate-sum-streets c =
-    let a = c .before .before .before .before .args in
-    let p = c .before .before .before .before .pre in
-    sym (sums-blank (a .m) (p .0 .few-sites) .0)
-
-sum-streets-requires : tie.Need-sum-streets-requires
-sum-streets-requires c κs =
-    let a = c .before .before .before .before .args in
-    let p = c .before .before .before .before .pre in
-    (p .0, (p .1, sums-blank (a .m) (p .0 .few-sites)))
-
-array-share-prefix-sums : tie.Need-array-share-prefix-sums
-array-share-prefix-sums c =
-    let a = c .before .before .before .before .before .before .args in
-    let p = c .before .before .before .before .before .before .pre in
-    let h = c .before .sum-streets .ensures in
-    sums-room (valueIn (a .values .now) (a .m)) (a .bests .now) (a .m) (length (a .bests .now)) (a .marks .now) _ _ h
-
-slice-aggregate-best-site : tie.Need-slice-aggregate-best-site
-slice-aggregate-best-site c =
+-- in a turn: the total and a bound are not great, the site has its bound and its flag
+sizes : (c : tie.In-loop Inv-loop μ-loop) →
+    let a = c .before .before .before .before .before .before .before .args in
+    let l = c .before .loop in
+    (c .before .before .sum .result ≤ 39600000) × (at (l .bounds) (l .i + 1) ≤ 39600000) × (l .i + 1 < length (l .bounds)) × (l .i + 1 < length (a .marks .now))
+sizes c =
     let a = c .before .before .before .before .before .before .before .args in
     let p = c .before .before .before .before .before .before .before .pre in
-    let h = c .before .before .sum-streets .ensures in
-    sums-size (valueIn (a .values .now) (a .m)) (a .bests .now) (a .m) (length (a .bests .now)) (a .marks .now) _ _ h
+    let l = c .before .loop in
+    let most = with-most 0 (a .values .now) (a .bests .now) in
+    let low = with-small (a .m) 0 (a .values .now) (a .bests .now) (p .0 .0) (p .0 .1) in (
+      omega (arith, l .inv .2),
+      l .inv .3 .small (l .i + 1),
+      omega (arith, l .inv .3 .size, p .0 .0 .few-sites),
+      omega (arith, p .0 .2, p .0 .0 .few-sites),
+    )
 
-best-site-requires : tie.Need-best-site-requires
-best-site-requires c κs =
-    let a = c .before .before .before .before .before .before .before .args in
-    let p = c .before .before .before .before .before .before .before .pre in
-    let h = c .before .before .sum-streets .ensures in
-    sums-ready (valueIn (a .values .now) (a .m)) (a .bests .now) (a .m) (length (a .bests .now)) (a .marks .now) _ _ h (p .0 .few-streets) (p .0 .few-sites) (p .2)
+-- where the site is tried: its row ends within the table, which is not long
+ends : (c : tie.Then1 Inv-loop μ-loop) →
+    let a = c .before .before .before .before .before .before .before .before .before .before .before .before .args in
+    let n = length (a .bests .now) in
+    ((c .before .before .before .before .before .before .loop .i + 1) * n + n ≤ length (a .values .now)) × (length (a .values .now) ≤ 26000)
+ends c =
+    let a = c .before .before .before .before .before .before .before .before .before .before .before .before .args in
+    row-ends (length (a .bests .now)) (a .m) (c .before .before .before .before .before .before .loop .i + 1) (a .values .now) (c .before .before .before .before .before .before .before .before .before .before .before .before .pre .0 .0) (omega arith)
 
-returns : tie.Need-returns
+sum-requires : tie.Need-sum-requires Inv-loop μ-loop
+sum-requires c κs = let p = c .before .before .before .before .pre in (p .0 .1, p .0 .0 .few-streets)
+
+loop-holds : tie.Need-loop-holds Inv-loop μ-loop
+loop-holds c =
+    let a = c .before .before .before .before .before .args in
+    (search needs, refl, c .sum .ensures, c .before .before .before .before .before .pre .1, marks-start (withSite (a .values .now) (a .bests .now)) (a .marks .now))
+
+add-a : tie.Need-add-a Inv-loop μ-loop
+add-a c = search needs
+
+mul-mark : tie.Need-mul-mark Inv-loop μ-loop
+mul-mark c = search needs
+
+slice-read-mark : tie.Need-slice-read-mark Inv-loop μ-loop
+slice-read-mark c = let q = sizes (c .before) in omega arith
+
+add-mark : tie.Need-add-mark Inv-loop μ-loop
+add-mark c = let q = sizes (c .before) in omega arith
+
+shared-slice-read-mark : tie.Need-shared-slice-read-mark Inv-loop μ-loop
+shared-slice-read-mark c = let q = sizes (c .before .before) in omega arith
+
+mark-requires : tie.Need-mark-requires Inv-loop μ-loop
+mark-requires c κs = let q = sizes (c .before .before) in omega arith
+
+mul-from : tie.Need-mul-from Inv-loop μ-loop
+mul-from c = let e = ends c in omega arith
+
+add-to : tie.Need-add-to Inv-loop μ-loop
+add-to c = let e = ends c in omega arith
+
+mul-sum-with : tie.Need-mul-sum-with Inv-loop μ-loop
+mul-sum-with c = let e = ends c in omega arith
+
+sub-sum-with : tie.Need-sub-sum-with Inv-loop μ-loop
+sub-sum-with c = search needs
+
+part-sum-with-start : tie.Need-part-sum-with-start Inv-loop μ-loop
+part-sum-with-start c = search needs
+
+part-sum-with-end : tie.Need-part-sum-with-end Inv-loop μ-loop
+part-sum-with-end c = let e = ends c in omega arith
+
+sum-with-requires : tie.Need-sum-with-requires Inv-loop μ-loop
+sum-with-requires c κs =
+    let a = c .before .before .before .before .before .before .before .before .before .before .before .before .before .args in
+    let p = c .before .before .before .before .before .before .before .before .before .before .before .before .before .pre in
+    row-beside (a .m) (c .before .before .before .before .before .before .before .loop .i + 1) (a .values .now) (a .bests .now) (p .0 .0) (omega arith) (p .0 .1)
+
+-- what is summed for the site is the total with it, which is no less than the total so far
+summed : (c : tie.After-sum-with Inv-loop μ-loop) →
+    let a = c .before .before .before .before .before .before .before .before .before .before .before .before .before .before .args in
+    let x = c .sum-with .result in
+    (x ≡ withSite (a .values .now) (a .bests .now) (c .before .before .before .before .before .before .before .before .loop .i + 1)) × (x ≤ 39600000) × (c .before .before .before .before .before .before .before .before .before .sum .result ≤ x)
+summed c =
+    let a = c .before .before .before .before .before .before .before .before .before .before .before .before .before .before .args in
+    let p = c .before .before .before .before .before .before .before .before .before .before .before .before .before .before .pre in
+    let l = c .before .before .before .before .before .before .before .before .loop in
+    let e = row-sum (a .m) (l .i + 1) (a .values .now) (a .bests .now) _ (p .0 .0) (omega arith) (c .sum-with .ensures) in
+    let low = with-small (a .m) (l .i + 1) (a .values .now) (a .bests .now) (p .0 .0) (p .0 .1) in
+    let most = with-most (l .i + 1) (a .values .now) (a .bests .now) in
+    (e, omega (arith, e), omega (arith, e, l .inv .2))
+
+sub-bounds : tie.Need-sub-bounds Inv-loop μ-loop
+sub-bounds c = let q = summed c in omega arith
+
+mul-bounds : tie.Need-mul-bounds Inv-loop μ-loop
+mul-bounds c = search needs
+
+slice-write-bounds : tie.Need-slice-write-bounds Inv-loop μ-loop
+slice-write-bounds c = let q = sizes (c .before .before .before .before .before .before .before) in omega arith
+
+shared-slice-read-mark-2 : tie.Need-shared-slice-read-mark-2 Inv-loop μ-loop
+shared-slice-read-mark-2 c = let q = sizes (c .before .before .before .before .before .before .before .before) in omega arith
+
+mark-requires-2 : tie.Need-mark-requires-2 Inv-loop μ-loop
+mark-requires-2 c κs = let q = summed (c .before) in omega arith
+
+better-requires : tie.Need-better-requires Inv-loop μ-loop
+better-requires c κs = search needs
+
+add-i : tie.Need-add-i Inv-loop μ-loop
+add-i c = search needs
+
+loop-less : tie.Need-loop-less Inv-loop μ-loop
+loop-less c = search needs
+
+loop-again : tie.Need-loop-again Inv-loop μ-loop
+loop-again c =
+    let a = c .before .before .before .before .before .before .before .before .before .before .before .before .args in
+    let p = c .before .before .before .before .before .before .before .before .before .before .before .before .pre in
+    let l = c .before .before .before .before .before .before .loop in
+    let f = withSite (a .values .now) (a .bests .now) in
+    let so = sumOf (length (a .bests .now)) (at (a .bests .now)) in
+    let low = with-small (a .m) (l .i + 1) (a .values .now) (a .bests .now) (p .0 .0) (p .0 .1) in
+    let most = with-most (l .i + 1) (a .values .now) (a .bests .now) in
+    let sum = row-sum (a .m) (l .i + 1) (a .values .now) (a .bests .now) in
+    let turned =
+    ⊎-elim
+    (λ w.
+    let e = sum _ (p .0 .0) (omega arith) (w .2 .ensures) in
+    either-way (λ bounds found. Bounded f so bounds × Best (mark (unflagged (a .marks .now)) f) (l .i + 1) (found .site) (found .most)) (w .6) (w .7) (
+      bounded-set f so (l .bounds) (l .inv .3) (l .i + 1) _ _ (omega (arith, p .0 .0 .few-sites)) e (l .inv .2) most low,
+      better-turn (l .inv .4) (mark-is f (a .marks .now) (l .i) _ _ e (w .4 .ensures)) (w .5 .ensures),
+    ))
+    (λ w.
+    either-way (λ bounds found. Bounded f so bounds × Best (mark (unflagged (a .marks .now)) f) (l .i + 1) (found .site) (found .most)) (w .1) (w .2) (
+      l .inv .3,
+      pass-turn f (a .marks .now) (l .i) _ _ (c .before .before .before .before .before .before .before .sum .result + at (l .bounds) (l .i + 1)) _ (l .inv .4)
+          (omega (arith, l .inv .3 .right (l .i + 1) (omega (arith, p .0 .0 .few-sites)), l .inv .2)) (c .before .before .mark .ensures) (omega (arith, w .0 .left)),
+    ))
+    (c .if1 .came) in
+    (omega arith, refl, l .inv .2, turned .0, turned .1)
+
+same-length : tie.Need-same-length Inv-loop μ-loop
+same-length c = let l = c .before .loop in l .inv .3 .size ∙ sym (c .before .before .before .before .before .before .before .pre .1 .size)
+
+returns : tie.Need-returns Inv-loop μ-loop
 returns c =
-    let a = c .before .before .before .before .before .before .before .before .args in
-    let p = c .before .before .before .before .before .before .before .before .pre in
-    let h = c .before .before .before .sum-streets .ensures in
-    sums-chosen (valueIn (a .values .now) (a .m)) (a .bests .now) (a .m) (length (a .bests .now)) (a .marks .now) _ _ h _ (c .best-site .ensures)
+    let a = c .before .before .before .before .before .before .before .args in
+    let l = c .before .loop in
+    (marks-end (withSite (a .values .now) (a .bests .now)) (a .marks .now) (l .i) (a .m) _ _ (omega arith) (omega arith) (l .inv .4), l .inv .3)
 
 pub choose-spec : {M : Type 1} → statement M
 choose-spec =
     tie.close
     (tie.spec
-    add-width
-    array-borrow-prefix-sums
-    slice-aggregate-sum-streets
-    sum-streets-requires
-    array-share-prefix-sums
-    slice-aggregate-best-site
-    best-site-requires
+    Inv-loop
+    μ-loop
+    sum-requires
+    loop-holds
+    add-a
+    mul-mark
+    slice-read-mark
+    add-mark
+    shared-slice-read-mark
+    mark-requires
+    mul-from
+    add-to
+    mul-sum-with
+    sub-sum-with
+    part-sum-with-start
+    part-sum-with-end
+    sum-with-requires
+    sub-bounds
+    mul-bounds
+    slice-write-bounds
+    shared-slice-read-mark-2
+    mark-requires-2
+    better-requires
+    add-i
+    loop-less
+    loop-again
+    same-length
     returns)

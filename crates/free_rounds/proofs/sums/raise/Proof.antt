@@ -1,22 +1,20 @@
 -- `free_rounds::sums::raise` meets its contract. Assumes nothing.
 use borrow.Author.Needs.{needs}
-use mathlib.Core.Path.{_≡_, refl, ap, _∙_}
-use Prim.Native.Nat.{ℕ, _+_, _≤_, _-_, max}
+use mathlib.Core.Path.{_≡_, refl}
+use Prim.Native.Nat.{_≤_, _-_, max}
 use native.Mathlib.Omega.{arith}
 use lib.ListN.{length}
+use Rattle.counting.specs.Lists.{at}
 use Rattle.counting.specs.Buffers.{Mapped}
 use Rattle.counting.proofs.Filling.{mapped-none, mapped-more, mapped-end}
-use Rattle.counting.specs.Lists.{at}
-use Rattle.counting.proofs.Tables.{in-rows}
-use Rattle.values.specs.Table.{valueIn}
 use Rattle.free_rounds.proofs.sums.raise.Statement.{statement}
 use Rattle.free_rounds.proofs.sums.raise.Tie as tie
 
 abbrev Inv-loop : tie.InvT-loop
-Inv-loop bests₀ values m a s₀ s-end bests s = (s ≤ s-end) × (s-end ≡ length bests₀) × Mapped (λ t x. max x (valueIn values m t a)) bests₀ bests s
+Inv-loop bests₀ row s₀ s-end bests s = (s ≤ s-end) × (s-end ≡ length bests₀) × Mapped (λ t x. max x (at row t)) bests₀ bests s
 
 abbrev μ-loop : tie.MeasureT-loop
-μ-loop bests₀ values m a s₀ s-end bests s = s-end - s
+μ-loop bests₀ row s₀ s-end bests s = s-end - s
 
 loop-holds : tie.Need-loop-holds Inv-loop μ-loop
 loop-holds c = (search needs, refl, mapped-none _ _)
@@ -27,11 +25,11 @@ mul-greater c = search needs
 slice-read-greater : tie.Need-slice-read-greater Inv-loop μ-loop
 slice-read-greater c = search needs
 
-value-requires : tie.Need-value-requires Inv-loop μ-loop
-value-requires c κs =
-    let a = c .before .before .before .before .before .args in
-    let p = c .before .before .before .before .before .pre in
-    (omega (arith, in-rows (c .before .before .loop .s) (length (a .bests .now)) (a .m + 1) (a .a) (omega arith) (omega (arith, p .1)), p .0 .size), p .0 .few-sites)
+mul-greater-2 : tie.Need-mul-greater-2 Inv-loop μ-loop
+mul-greater-2 c = search needs
+
+shared-slice-read-greater : tie.Need-shared-slice-read-greater Inv-loop μ-loop
+shared-slice-read-greater c = search needs
 
 greater-requires : tie.Need-greater-requires Inv-loop μ-loop
 greater-requires c κs = search needs
@@ -49,10 +47,7 @@ loop-less : tie.Need-loop-less Inv-loop μ-loop
 loop-less c = search needs
 
 loop-again : tie.Need-loop-again Inv-loop μ-loop
-loop-again c =
-    let l = c .before .before .before .before .loop in
-    let e = c .greater .ensures ∙ ap (λ (x : ℕ). max (at (l .bests) (l .s)) x) (c .before .value .ensures) in
-    (omega arith, refl, mapped-more _ _ (l .bests) (l .s) _ (omega arith) (l .inv .2) e)
+loop-again c = let l = c .before .before .before .before .loop in (omega arith, refl, mapped-more _ _ (l .bests) (l .s) _ (omega arith) (l .inv .2) (c .greater .ensures))
 
 same-length : tie.Need-same-length Inv-loop μ-loop
 same-length c = search needs
@@ -69,7 +64,8 @@ raise-spec =
     loop-holds
     mul-greater
     slice-read-greater
-    value-requires
+    mul-greater-2
+    shared-slice-read-greater
     greater-requires
     mul-bests
     slice-write-bests

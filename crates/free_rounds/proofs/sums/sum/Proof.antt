@@ -1,12 +1,13 @@
 -- `free_rounds::sums::sum` meets its contract. Assumes nothing.
 use borrow.Author.Needs.{needs}
-use mathlib.Core.Path.{_≡_, refl, sym, ap, _∙_}
-use Prim.Native.Nat.{ℕ, _≤_, _-_, _*_, _+_}
+use mathlib.Core.Path.{_≡_, refl}
+use Prim.Native.Nat.{_≤_, _-_, _*_}
 use native.Mathlib.Omega.{arith}
 use lib.ListN.{length}
 use Rattle.counting.specs.Words.{sumOf}
-use Rattle.counting.proofs.Sums.{sumOf-next, sum-end}
+use Rattle.counting.proofs.Sums.{sum-end}
 use Rattle.counting.specs.Lists.{at}
+use Rattle.free_rounds.proofs.Turns.{sum-turn}
 use Rattle.free_rounds.proofs.sums.sum.Statement.{statement}
 use Rattle.free_rounds.proofs.sums.sum.Tie as tie
 
@@ -19,14 +20,17 @@ abbrev μ-loop : tie.MeasureT-loop
 loop-holds : tie.Need-loop-holds Inv-loop μ-loop
 loop-holds c = (search needs, refl, refl, search needs)
 
-mul-total : tie.Need-mul-total Inv-loop μ-loop
-mul-total c = search needs
+mul-wide : tie.Need-mul-wide Inv-loop μ-loop
+mul-wide c = search needs
 
-shared-slice-read-total : tie.Need-shared-slice-read-total Inv-loop μ-loop
-shared-slice-read-total c = search needs
+shared-slice-read-wide : tie.Need-shared-slice-read-wide Inv-loop μ-loop
+shared-slice-read-wide c = search needs
+
+wide-requires : tie.Need-wide-requires Inv-loop μ-loop
+wide-requires c κs = search needs
 
 add-total : tie.Need-add-total Inv-loop μ-loop
-add-total c = let l = c .before .before .loop in omega (arith, c .before .before .before .pre .0 (l .s))
+add-total c = let l = c .before .before .before .loop in omega (arith, c .wide .ensures, c .before .before .before .before .before .pre .0 (l .s))
 
 add-s : tie.Need-add-s Inv-loop μ-loop
 add-s c = search needs
@@ -36,15 +40,15 @@ loop-less c = search needs
 
 loop-again : tie.Need-loop-again Inv-loop μ-loop
 loop-again c =
-    let l = c .before .before .loop in
-    let e = ap (λ (x : ℕ). x + at (c .before .before .before .args .bests .now) (l .s)) (l .inv .2) ∙ sym (sumOf-next (l .s) _) in
-    (omega arith, refl, e, omega (arith, c .before .before .before .pre .0 (l .s)))
+    let l = c .before .before .before .loop in
+    let p = c .before .before .before .before .before .pre in
+    (omega arith, refl, sum-turn _ (l .s) _ _ (l .inv .2) (c .wide .ensures), omega (arith, c .wide .ensures, p .0 (l .s)))
 
 returns : tie.Need-returns Inv-loop μ-loop
 returns c =
     let l = c .before .loop in
-    let bests = c .before .before .args .bests .now in
-    sum-end (at bests) (l .s) (length bests) _ (omega arith) (omega arith) (l .inv .2)
+    let a = c .before .before .before .args in
+    sum-end (at (a .bests .now)) (l .s) (length (a .bests .now)) _ (omega arith) (omega arith) (l .inv .2)
 
 pub sum-spec : {M : Type 1} → statement M
 sum-spec =
@@ -53,8 +57,9 @@ sum-spec =
     Inv-loop
     μ-loop
     loop-holds
-    mul-total
-    shared-slice-read-total
+    mul-wide
+    shared-slice-read-wide
+    wide-requires
     add-total
     add-s
     loop-less

@@ -1,0 +1,88 @@
+-- `site_values::fill_values` meets its contract. Assumes nothing.
+use borrow.Author.Needs.{needs}
+use mathlib.Core.Path.{sym, _∙_}
+use Prim.Native.Nat.{_+_, _*_, _≤_, _-_}
+use native.Mathlib.Omega.{arith}
+use lib.ListN.{length}
+use Rattle.counting.proofs.Tables.{row-within}
+use Rattle.survey.specs.Rows.{value}
+use Rattle.site_values.proofs.Filling.{Filled, filled-none, filled-all, filled-more, street-sound, street-room, street-unscored}
+use Rattle.site_values.proofs.fill_values.Statement.{statement}
+use Rattle.site_values.proofs.fill_values.Tie as tie
+
+abbrev Inv-loop : tie.InvT-loop
+Inv-loop n m scores rows values₀ s₀ values s = (s ≤ n) × Filled (value m scores rows) n m values s
+
+abbrev μ-loop : tie.MeasureT-loop
+μ-loop n m scores rows values₀ s₀ values s = n - s
+
+-- in a turn: the street's row ends within the rows
+ends : (c : tie.In-loop Inv-loop μ-loop) →
+    let a = c .before .before .before .before .before .args in
+    c .before .loop .s * a .m + a .m ≤ length (a .rows .now)
+ends c =
+    let a = c .before .before .before .before .before .args in
+    let ok = c .before .before .before .before .before .pre .0 in
+    omega (arith, row-within (a .n) (a .m) (c .before .loop .s) (omega arith), ok .rows-fit)
+
+loop-holds : tie.Need-loop-holds Inv-loop μ-loop
+loop-holds c = (search needs, filled-none _ _ _ _ (c .before .before .before .pre .1))
+
+mul-low : tie.Need-mul-low Inv-loop μ-loop
+mul-low c = omega (arith, ends c)
+
+add-high : tie.Need-add-high Inv-loop μ-loop
+add-high c = omega (arith, ends c)
+
+sub-fill-street : tie.Need-sub-fill-street Inv-loop μ-loop
+sub-fill-street c = search needs
+
+part-fill-street-start : tie.Need-part-fill-street-start Inv-loop μ-loop
+part-fill-street-start c = search needs
+
+part-fill-street-end : tie.Need-part-fill-street-end Inv-loop μ-loop
+part-fill-street-end c = omega (arith, ends c)
+
+fill-street-requires : tie.Need-fill-street-requires Inv-loop μ-loop
+fill-street-requires c κs =
+    let l = c .before .before .before .loop in
+    let ok = c .before .before .before .before .before .before .before .pre .0 in
+    (street-sound ok (omega arith) (l .inv .1), (street-room ok (omega arith) (l .inv .1), street-unscored ok (omega arith) (l .inv .1)))
+
+add-s : tie.Need-add-s Inv-loop μ-loop
+add-s c = search needs
+
+loop-less : tie.Need-loop-less Inv-loop μ-loop
+loop-less c = search needs
+
+loop-again : tie.Need-loop-again Inv-loop μ-loop
+loop-again c =
+    let ok = c .before .before .before .before .before .before .before .before .before .before .pre .0 in
+    let l = c .before .before .before .before .before .before .loop in
+    let call = c .before .before .fill-street in
+    (omega arith, filled-more ok (omega arith) (l .inv .1) (call .last .1 .1 .1 .1 .0) (call .kept .1 .1 .1 .1 .0) (call .ensures))
+
+same-length : tie.Need-same-length Inv-loop μ-loop
+same-length c = c .before .loop .inv .1 .size ∙ sym (c .before .before .before .before .before .pre .1 .size)
+
+returns : tie.Need-returns Inv-loop μ-loop
+returns c = filled-all (omega arith) (c .before .loop .inv .1)
+
+pub fill-values-spec : {M : Type 1} → statement M
+fill-values-spec =
+    tie.close
+    (tie.spec
+    Inv-loop
+    μ-loop
+    loop-holds
+    mul-low
+    add-high
+    sub-fill-street
+    part-fill-street-start
+    part-fill-street-end
+    fill-street-requires
+    add-s
+    loop-less
+    loop-again
+    same-length
+    returns)

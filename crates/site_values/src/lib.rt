@@ -1,0 +1,36 @@
+// The table of a survey's values by site, filled once from scores and rows: a row of n values for each of the sites 0, 1, .., m.
+// It is for an engine that sums a site's values over the streets: these stand side by side.
+ghost use mathlib.Core.Path.{_≡_};
+ghost use lib.ListN.{length};
+ghost use Rattle.survey.specs.Rows.{value};
+ghost use Rattle.survey.specs.Accepted.{SoundRow, Accepted};
+ghost use Rattle.site_values.specs.Table.{Blank, Valued, Room, Unscored, Scored};
+
+// The street s gets the score at the place of each site that it ranked. Any other site keeps its 0, so the row is read once.
+fn fill_street(n: usize, s: usize, scores: &[u16], row: &[u8], values: &mut [u16])
+    requires sound { ⌜ SoundRow (length (now row)) (now row) × (length (now scores) ≡ length (now row)) ⌝ }
+    requires room { ⌜ Room n s (length (now row)) (now values) ⌝ }
+    requires blank { ⌜ Unscored n s (length (now row)) (now values) ⌝ }
+    ensures { λ _. ⌜ Scored n s (now (scores .entry)) (now (row .entry)) (now (values .entry)) (now (values .exit)) ⌝ }
+{
+    for j in 0..row.len() {
+        let b = row[j];
+        if b == 0 {
+            return;
+        }
+        values[b as usize * n + s] = scores[j];
+    }
+}
+
+// The whole table: each street's row of m bytes fills the street's column.
+pub fn fill_values(n: usize, m: usize, scores: &[u16], rows: &[u8], values: &mut [u16])
+    requires { ⌜ Accepted n m (now scores) (now rows) ⌝ }
+    requires { ⌜ Blank n m (now values) ⌝ }
+    ensures { λ _. ⌜ Valued (value m (now (scores .entry)) (now (rows .entry))) n m (now (values .exit)) ⌝ }
+{
+    for s in 0..n {
+        let low = s * m;
+        let high = low + m;
+        fill_street(n, s, scores, &rows[low..high], values);
+    }
+}
