@@ -58,41 +58,68 @@ pub fn list_total(n: usize, m: usize, scores: &[u16], rows: &[u8], sites: &[u8])
     })
 }
 
+/// What the free and the balanced division are in C.
+type DivisionCall = unsafe extern "C" fn(usize, usize, *const u16, usize, *const u8, usize, *const u8, usize, *mut u8, usize) -> u64;
+
+/// The division that `call` makes, which has to be one of the archive's two.
+unsafe fn divide(
+    call: DivisionCall,
+    [n, m]: [usize; 2],
+    scores: &[u16],
+    rows: &[u8],
+    sites: &[u8],
+    division: &mut [u8],
+) -> Result<u32, Refusal> {
+    unpacked(call(
+        n,
+        m,
+        scores.as_ptr(),
+        scores.len(),
+        rows.as_ptr(),
+        rows.len(),
+        sites.as_ptr(),
+        sites.len(),
+        division.as_mut_ptr(),
+        division.len(),
+    ))
+}
+
 /// The free division over a list of sites, into `n` bytes; gives the list's total. Refuses with 1, 2, 3, 6, 8, 9, 10, 11, 17 or 20.
 pub fn free_division(n: usize, m: usize, scores: &[u16], rows: &[u8], sites: &[u8], division: &mut [u8]) -> Result<u32, Refusal> {
-    unpacked(unsafe {
-        raw::planner_free_division(
-            n,
-            m,
-            scores.as_ptr(),
-            scores.len(),
-            rows.as_ptr(),
-            rows.len(),
-            sites.as_ptr(),
-            sites.len(),
-            division.as_mut_ptr(),
-            division.len(),
-        )
-    })
+    unsafe { divide(raw::planner_free_division, [n, m], scores, rows, sites, division) }
 }
 
 /// The best balanced division over a list of sites, into `n` bytes; gives its total. Refuses with 1, 2, 3, 5, 6, 8, 9, 10, 11, 17
 /// or 20.
 pub fn balanced_division(n: usize, m: usize, scores: &[u16], rows: &[u8], sites: &[u8], division: &mut [u8]) -> Result<u32, Refusal> {
-    unpacked(unsafe {
-        raw::planner_balanced_division(
-            n,
-            m,
-            scores.as_ptr(),
-            scores.len(),
-            rows.as_ptr(),
-            rows.len(),
-            sites.as_ptr(),
-            sites.len(),
-            division.as_mut_ptr(),
-            division.len(),
-        )
-    })
+    unsafe { divide(raw::planner_balanced_division, [n, m], scores, rows, sites, division) }
+}
+
+/// What the free and the balanced plan are in C.
+type PlanCall = unsafe extern "C" fn(usize, usize, usize, *const u16, usize, *const u8, usize, *mut u8, usize, *mut u8, usize) -> u64;
+
+/// The plan that `call` makes, which has to be one of the archive's two.
+unsafe fn plan(
+    call: PlanCall,
+    [n, m, k]: [usize; 3],
+    scores: &[u16],
+    rows: &[u8],
+    division: &mut [u8],
+    chosen: &mut [u8],
+) -> Result<u32, Refusal> {
+    unpacked(call(
+        n,
+        m,
+        k,
+        scores.as_ptr(),
+        scores.len(),
+        rows.as_ptr(),
+        rows.len(),
+        division.as_mut_ptr(),
+        division.len(),
+        chosen.as_mut_ptr(),
+        chosen.len(),
+    ))
 }
 
 /// The free plan: the site of each street into `n` bytes and the sites in order of choice into `k`; gives the total. Refuses with 1,
@@ -106,21 +133,7 @@ pub fn free_plan(
     division: &mut [u8],
     chosen: &mut [u8],
 ) -> Result<u32, Refusal> {
-    unpacked(unsafe {
-        raw::planner_free_plan(
-            n,
-            m,
-            k,
-            scores.as_ptr(),
-            scores.len(),
-            rows.as_ptr(),
-            rows.len(),
-            division.as_mut_ptr(),
-            division.len(),
-            chosen.as_mut_ptr(),
-            chosen.len(),
-        )
-    })
+    unsafe { plan(raw::planner_free_plan, [n, m, k], scores, rows, division, chosen) }
 }
 
 /// The balanced plan, with `n / k` streets to each site; buffers as in the free plan; gives the total. Refuses with 1, 2, 3, 5, 6, 8,
@@ -134,21 +147,7 @@ pub fn balanced_plan(
     division: &mut [u8],
     chosen: &mut [u8],
 ) -> Result<u32, Refusal> {
-    unpacked(unsafe {
-        raw::planner_balanced_plan(
-            n,
-            m,
-            k,
-            scores.as_ptr(),
-            scores.len(),
-            rows.as_ptr(),
-            rows.len(),
-            division.as_mut_ptr(),
-            division.len(),
-            chosen.as_mut_ptr(),
-            chosen.len(),
-        )
-    })
+    unsafe { plan(raw::planner_balanced_plan, [n, m, k], scores, rows, division, chosen) }
 }
 
 /// The floor: a total that the balanced plan reaches in any case. Refuses with 1, 2, 3, 5, 6, 8, 9, 10 or 11.
@@ -156,42 +155,31 @@ pub fn floor(n: usize, m: usize, k: usize, scores: &[u16], rows: &[u8]) -> Resul
     unpacked(unsafe { raw::planner_floor(n, m, k, scores.as_ptr(), scores.len(), rows.as_ptr(), rows.len()) })
 }
 
+/// What the tests of a free and of a balanced hand-made plan are in C.
+type HandCall = unsafe extern "C" fn(usize, usize, usize, *const u16, usize, *const u8, usize, *const u8, usize, u32) -> u64;
+
+/// The test that `call` makes, which has to be one of the archive's two.
+unsafe fn test_hand(
+    call: HandCall,
+    [n, m, k]: [usize; 3],
+    scores: &[u16],
+    rows: &[u8],
+    division: &[u8],
+    claimed: u32,
+) -> Result<u32, Refusal> {
+    unpacked(call(n, m, k, scores.as_ptr(), scores.len(), rows.as_ptr(), rows.len(), division.as_ptr(), division.len(), claimed))
+}
+
 /// Tests a hand-made free plan: the site of each street, 0 for none, and the total claimed for it; gives the plan's total,
 /// which the claimed one then is. Refuses with 1, 2, 3, 6, 8, 9, 10, 11, 17, 18 or 19.
 pub fn free_hand(n: usize, m: usize, k: usize, scores: &[u16], rows: &[u8], division: &[u8], claimed: u32) -> Result<u32, Refusal> {
-    unpacked(unsafe {
-        raw::planner_free_hand(
-            n,
-            m,
-            k,
-            scores.as_ptr(),
-            scores.len(),
-            rows.as_ptr(),
-            rows.len(),
-            division.as_ptr(),
-            division.len(),
-            claimed,
-        )
-    })
+    unsafe { test_hand(raw::planner_free_hand, [n, m, k], scores, rows, division, claimed) }
 }
 
 /// Tests a hand-made balanced plan: `k` sites with `n / k` streets each, and the total claimed for it; gives the plan's total,
 /// which the claimed one then is. Refuses with 1, 2, 3, 5, 6, 8, 9, 10, 11, 17, 18 or 19.
 pub fn balanced_hand(n: usize, m: usize, k: usize, scores: &[u16], rows: &[u8], division: &[u8], claimed: u32) -> Result<u32, Refusal> {
-    unpacked(unsafe {
-        raw::planner_balanced_hand(
-            n,
-            m,
-            k,
-            scores.as_ptr(),
-            scores.len(),
-            rows.as_ptr(),
-            rows.len(),
-            division.as_ptr(),
-            division.len(),
-            claimed,
-        )
-    })
+    unsafe { test_hand(raw::planner_balanced_hand, [n, m, k], scores, rows, division, claimed) }
 }
 
 /// Writes the survey file into a buffer of any length, of which `FILE` bytes are always enough; gives the file's length, and changes
