@@ -6,7 +6,6 @@ use mathlib.Mathlib.Data.Bool.Basic.{dichotomy, or-eq-false-eq-eq-false-and-eq-f
 use mathlib.Core.Logic.{⊎-elim}
 use mathlib.Core.List.{List, [], _∷_, _++_}
 use Prim.Native.Nat.{ℕ, zero, suc, _+_, _*_, _≤_, _<_}
-use native.Mathlib.Nat.{eq-or-lt-of-le}
 use native.Mathlib.Omega.{arith}
 use lib.Dec.{eqb}
 use lib.ListN.{length, replicate, length-replicate}
@@ -15,6 +14,7 @@ use Rattle.counting.specs.Words.{one, sumOf}
 use Rattle.counting.specs.Lists.{has, count}
 use Rattle.counting.specs.Sites.{Sites, Plan}
 use Rattle.counting.proofs.Membership.{sum-le}
+use Rattle.counting.proofs.Sums.{sumOf-upto}
 use Rattle.counting.proofs.Choice.{unchosen-only, unchosen-greatest}
 use Rattle.division.specs.Shares.{share, shareAmong, sharesOf, InShares, divisionTotal}
 use Rattle.division.proofs.Shared.{shares-are}
@@ -22,11 +22,6 @@ use Rattle.balanced_plan.specs.Rounds.{lot, worth, choice, rounds}
 use Rattle.counting.proofs.Plans.{plan-none, plan-add}
 use Rattle.counting.proofs.Listed.{sum-even}
 use Rattle.balanced_plan.proofs.Lots.{lot-givable, lot-length, give-length, give-total, give-count}
-
--- a sum of more numbers is no less
-sumOf-upto : (q : ℕ → ℕ) (i k : ℕ) → i ≤ k → sumOf i q ≤ sumOf k q
-sumOf-upto q i zero l = ⊎-elim (λ e. rw e (omega arith)) (λ n. absurd (omega arith)) (eq-or-lt-of-le l)
-sumOf-upto q i (suc k) l = ⊎-elim (λ e. rw e (omega arith)) (λ n. omega (arith, sumOf-upto q i k (omega arith))) (eq-or-lt-of-le l)
 
 -- a site that is chosen last has the share that comes next
 among-last : (q : ℕ → ℕ) (chosen : List ℕ) (b x : ℕ) → has b chosen ≡ false

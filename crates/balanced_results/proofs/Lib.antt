@@ -1,3 +1,4 @@
 pub mod Divided
 pub mod Played
+pub mod Falling
 pub mod Surveyed

@@ -15,7 +15,7 @@ use Rattle.counting.specs.Sites.{Plan}
 use Rattle.counting.proofs.Sums.{has-at}
 use Rattle.counting.proofs.Tables.{row-within}
 use Rattle.survey.specs.Rows.{rowOf, placeOf}
-use Rattle.survey.specs.Accepted.{Accepted}
+use Rattle.survey.specs.BySite.{Ranked}
 use Rattle.division.specs.Shares.{InShares, divisionTotal, sharesOf}
 use Rattle.division.specs.Divide.{divide}
 use Rattle.balanced_plan.specs.Rounds.{ordered, rounds, placeKey, evenShare}
@@ -24,16 +24,11 @@ use Rattle.balanced_plan.proofs.Ordered.{ordered-street}
 use Rattle.balanced_plan.proofs.Dealt.{rounds-plan, rounds-in}
 use Rattle.balanced_plan.proofs.Evenly.{even-sum}
 use Rattle.balanced_plan.proofs.Agree.{rounds-agree}
-use Rattle.keys.specs.Table.{Ranked}
 use Rattle.balanced_rounds.specs.declared.State.{State}
 use Rattle.balanced_rounds.specs.Lines.{Lines, stateOf}
 use Rattle.balanced_results.specs.Shareable.{Shareable}
 use Rattle.balanced_results.specs.Plans.{planSites, planDivision}
 use Rattle.balanced_results.proofs.Divided.{as-valued, total-valued}
-
--- an accepted survey's rows rank the sites
-pub ranked : (n m : ℕ) (scores rows : List ℕ) → Accepted n m scores rows → Ranked n m rows
-ranked n m scores rows ok = record { few-streets = ok .few-streets; few-sites = ok .few-sites; rows-fit = ok .rows-fit; sound-rows = ok .sound-rows }
 
 -- ---- lines
 module _ (n m : ℕ) (list : List ℕ) (size : length list ≡ (m + 1) * n) where

@@ -2,44 +2,27 @@
 -- Assumes nothing.
 use mathlib.Core.Path.{_≡_}
 use mathlib.Core.List.{List}
-use Prim.Native.Nat.{ℕ, _*_, _/_, _≤_, _<_}
-use native.Mathlib.Omega.{arith}
-use lib.ListN.{drop, length-take}
-use Rattle.counting.proofs.Membership.{apart}
-use Rattle.survey.specs.Rows.{rowOf, rankedPart, listOfStreet, placeIn, placeOf, scoreAt, value, shortest}
+use Prim.Native.Nat.{ℕ, _*_, _/_, _≤_}
+use Rattle.survey.specs.Rows.{rowOf, listOfStreet, placeIn, scoreAt, value, shortest}
 use Rattle.survey.specs.Accepted.{Accepted}
-use Rattle.survey.proofs.Lists.{place-most, place-among, score-later, ranked-length, ranked-within, ranked-apart, shortest-least}
-use Rattle.survey.proofs.Places.{score-none, valued-zero}
+use Rattle.survey.proofs.Lists.{place-among, score-later, ranked-within, ranked-apart, shortest-least}
+use Rattle.survey.proofs.Places.{valued-zero}
 use Rattle.division.specs.Shares.{divisionTotal, sharesOf}
 use Rattle.division.specs.Divide.{divide}
-use Rattle.balanced_plan.specs.Rounds.{State, rounds, placeKey, evenShare}
+use Rattle.balanced_plan.specs.Rounds.{State, rounds, evenShare}
 use Rattle.balanced_plan.specs.Floor.{floor}
 use Rattle.balanced_plan.proofs.Evenly.{even-sum, even-crowd}
 use Rattle.balanced_plan.proofs.Floored.{Ranking, best-floor}
-use Rattle.balanced_plan.proofs.Keys.{place-falls}
+use Rattle.balanced_results.specs.Plans.{rowKey}
+use Rattle.balanced_results.proofs.Falling.{key-falls}
 
 -- ---- the rounds of a survey
 module _ (n m k : ℕ) (scores rows : List ℕ) where
-  -- the place that a street gives a site
-  abbrev place : ℕ → ℕ → ℕ
-  place s a = placeOf (rowOf m rows s) a
-
-  -- the key of a site and a street
-  abbrev key : ℕ → ℕ → ℕ
-  key = placeKey place m
-
   -- the state after the k rounds
   abbrev planned : State
-  planned = rounds (value m scores rows) key n m (evenShare n k) k
+  planned = rounds (value m scores rows) (rowKey m rows) n m (evenShare n k) k
 
   module _ (ok : Accepted n m scores rows) (few : k ≤ m) (whole : k * (n / k) ≡ n) where
-    -- the key puts first a street that scores no less
-    key-falls : (a s u : ℕ) → s < n → u < n → key a s ≤ key a u → value m scores rows u a ≤ value m scores rows s a
-    key-falls a s u l h =
-        let row : List ℕ = rowOf m rows u in
-        let high : place u a ≤ m = omega (arith, place-most (rankedPart row) a, ranked-length row, length-take m (drop (u * m) rows)) in
-        place-falls place (scoreAt scores) m (score-later scores (ok .sound-scores)) (score-none scores) a s u high
-
     -- the streets' lists are a ranking as long as the shortest
     ranking : Ranking (value m scores rows) (scoreAt scores) n m (shortest n m rows) (listOfStreet m rows)
     ranking =
@@ -56,5 +39,5 @@ module _ (n m k : ℕ) (scores rows : List ℕ) where
     pub plan-floor : floor (evenShare n k) (scoreAt scores) (shortest n m rows) m k
         ≤ divisionTotal (value m scores rows) (divide (value m scores rows) n (sharesOf (evenShare n k) (planned .chosen) m))
     plan-floor =
-        best-floor (value m scores rows) key n m key-falls (shortest n m rows) (scoreAt scores) (listOfStreet m rows) ranking (evenShare n k) k
+        best-floor (value m scores rows) (rowKey m rows) n m (key-falls n m scores rows ok) (shortest n m rows) (scoreAt scores) (listOfStreet m rows) ranking (evenShare n k) k
         (valued-zero m scores rows) few (even-sum n m k whole) (even-crowd n m k whole few)

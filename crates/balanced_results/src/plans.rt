@@ -6,18 +6,18 @@ ghost use lib.ListN.{length};
 ghost use Rattle.counting.specs.Lists.{at, cell};
 ghost use Rattle.survey.specs.Rows.{rowOf, placeOf, value};
 ghost use Rattle.survey.specs.Accepted.{Accepted};
+ghost use Rattle.survey.specs.BySite.{Ranked};
 ghost use Rattle.values.specs.Table.{Table, valueIn};
 ghost use Rattle.division.specs.Shares.{InShares, divisionTotal, sharesOf};
 ghost use Rattle.division.specs.Divide.{divide};
 ghost use Rattle.balanced_plan.specs.Rounds.{rounds, placeKey, evenShare};
-ghost use Rattle.keys.specs.Table.{Ranked};
 ghost use Rattle.balanced_rounds.specs.Lines.{Held, stateOf};
 ghost use Rattle.balanced_results.specs.Shareable.{Shareable};
-ghost use Rattle.balanced_results.specs.Plans.{planSites, planDivision};
+ghost use Rattle.balanced_results.specs.Plans.{planSites, planDivision, FallsByPlace};
 
 // The state after the rounds, from the rows of a survey and the table of its values.
 fn play(values: &[u32], rows: &[u8], n: usize, m: usize, k: usize) -> State
-    requires { ⌜ Table n m (now values) × Ranked n m (now rows) ⌝ }
+    requires { ⌜ Table n m (now values) × Ranked n m (now rows) × FallsByPlace (valueIn (now values) m) n m (now rows) ⌝ }
     requires { ⌜ (0 < k) × (k ≤ m) ⌝ }
     ensures held { λ r. ⌜ Held r × (r .count ≡ k) ⌝ }
     ensures state { λ r. ⌜ stateOf n r ≡ rounds (valueIn (now (values .entry)) m) (placeKey (λ s a. placeOf (rowOf m (now (rows .entry)) s) a) m) n m (evenShare n k) k ⌝ }
@@ -52,7 +52,7 @@ fn plan_table(
     chosen: &mut [u8],
     shares: &mut [u16],
 ) -> u32
-    requires { ⌜ Table (length (now division)) m (now values) × Ranked (length (now division)) m (now rows) ⌝ }
+    requires { ⌜ Table (length (now division)) m (now values) × Ranked (length (now division)) m (now rows) × FallsByPlace (valueIn (now values) m) (length (now division)) m (now rows) ⌝ }
     requires { ⌜ (0 < length (now chosen)) × (length (now chosen) ≤ m) × (length (now chosen) * (length (now division) / length (now chosen)) ≡ length (now division)) ⌝ }
     requires { ⌜ (length (now shares) ≡ m + 1) × ((a : ℕ) → at (now shares) a ≡ 0) ⌝ }
     ensures total { λ r. ⌜ r ≡ divisionTotal (valueIn (now (values .entry)) m) (planDivision (valueIn (now (values .entry)) m) (length (now (division .entry))) m (length (now (chosen .entry))) (now (rows .entry))) ⌝ }

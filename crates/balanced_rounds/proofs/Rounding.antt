@@ -30,7 +30,7 @@ use Rattle.balanced_plan.specs.Rounds.{free, lot, worth, give, choice, taken, r
 use Rattle.balanced_plan.specs.Rounds as plan
 use Rattle.balanced_plan.proofs.Ordered.{ordered-only}
 use Rattle.balanced_rounds.specs.declared.State.{State}
-use Rattle.balanced_rounds.specs.Lines.{picked, Orders, Line, Lines, stateOf, emptyState, Held}
+use Rattle.balanced_rounds.specs.Lines.{picked, Orders, Line, Lines, Falls, Falling, stateOf, emptyState, Held}
 
 -- ---- lines
 module _ (n m : ℕ) (orders : List ℕ) (h : Lines n m orders) (a : ℕ) (l : a ≤ m) where
@@ -48,6 +48,10 @@ module _ (n m : ℕ) (orders : List ℕ) (h : Lines n m orders) (a : ℕ) (l : a
         omega (arith, there, h .streets (a * n + i) (omega (arith, line-ends)));
     few = omega arith;
   }
+
+  -- and the values never rise along it
+  pub line-falls : (v : ℕ → ℕ → ℕ) → Falling v n m orders → Falls (λ s. v s a) (take (a * n + n - a * n) (drop (a * n) orders))
+  line-falls v falls = rw row-part (falls a l)
 
 -- what is picked from a site's line is the lot that the definition gives it
 pub lot-line : (key : ℕ → ℕ → ℕ) (n m : ℕ) (orders : List ℕ) → Orders key n m orders → (q : ℕ) (division : List ℕ) (a : ℕ) → length division ≡ n → a ≤ m
@@ -175,9 +179,12 @@ lines-small n m few few-sites = mul-le-mul {n₁ = m + 1} {m₁ = n} {n₂ = 65}
 pub small-of : (list new : List ℕ) (bound : ℕ) → list ≡ new → ((a : ℕ) → at new a ≤ bound) → (a : ℕ) → at list a ≤ bound
 small-of list new bound e h = rw e h
 
--- lines and orders of n streets, where n is the length of a list
+-- lines, orders and falling values of n streets, where n is the length of a list
 pub lines-of : (i n m : ℕ) (orders : List ℕ) → i ≡ n → Lines n m orders → Lines i m orders
 lines-of i n m orders e h = rw e h
 
 pub orders-of : (i n m : ℕ) (key : ℕ → ℕ → ℕ) (orders : List ℕ) → i ≡ n → Orders key n m orders → Orders key i m orders
 orders-of i n m key orders e h = rw e h
+
+pub falling-of : (i n m : ℕ) (v : ℕ → ℕ → ℕ) (orders : List ℕ) → i ≡ n → Falling v n m orders → Falling v i m orders
+falling-of i n m v orders e h = rw e h

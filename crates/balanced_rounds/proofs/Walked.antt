@@ -1,6 +1,7 @@
 -- Laws of the walks along a line: what is counted or given so far, and what the rest of the line still adds, make up the whole.
 -- Assumes nothing.
-use mathlib.Core.Path.{_≡_, refl, sym, ap}
+use mathlib.Core.Path.{_≡_, refl, sym, ap, _∙_}
+use mathlib.Core.Bool.{true}
 use mathlib.Core.List.{List, [], _∷_}
 use mathlib.Core.Logic.{by-cases}
 use Prim.Native.Nat.{ℕ, zero, suc, _+_, _*_, _-_, _≤_, _<_}
@@ -8,14 +9,17 @@ use native.Mathlib.Nat.{mul-le-mul, mul-le-mul-left, mul-one, mul-zero}
 use native.Mathlib.Numerals.{add-one}
 use native.Mathlib.Decide.{ℕ-discrete}
 use native.Mathlib.Omega.{arith}
-use lib.ListN.{length, drop}
-use lib.Seq.{drop-cons, drop-length}
+use lib.ListN.{length, drop, length-drop}
+use lib.Seq.{drop-cons, drop-length, getD-drop}
 use borrow.Author.Tests.{eq-eqb, ne-eqb}
-use Rattle.counting.specs.Lists.{at, sum}
+use Rattle.counting.specs.Lists.{at, has, sum}
+use Rattle.counting.proofs.Listed.{only-has, has-take, sum-even}
+use Rattle.counting.proofs.Membership.{sum-le}
+use Rattle.counting.proofs.Sums.{has-index}
 use Rattle.counting.proofs.Tables.{in-rows}
 use Rattle.values.specs.Table.{Table}
-use Rattle.balanced_plan.specs.Rounds.{give}
-use Rattle.balanced_rounds.specs.Lines.{picked, Stepped}
+use Rattle.balanced_plan.specs.Rounds.{free, give}
+use Rattle.balanced_rounds.specs.Lines.{picked, Falls, Stepped}
 
 -- a free street at the front of a line is the first that is picked
 picked-free : (division line : List ℕ) (s q : ℕ) → at division s ≡ 0 → picked (s ∷ line) (suc q) division ≡ s ∷ picked line q division
@@ -53,9 +57,9 @@ pub once-none : (value once : ℕ) → once ≡ 0 → value * once ≡ 0
 once-none value once e = rw e (mul-zero value)
 
 -- a street that is counted once where it is free, and not at all where it is given away
-pub stepped : (f : ℕ → ℕ) (division : List ℕ) (s left total once x : ℕ) → 0 < left → (at division s ≡ 0 → once ≡ 1) → ((at division s ≡ 0 → ⊥) → once ≡ 0)
-    → (once ≡ 1 → x ≡ f s) → (once ≡ 0 → x ≡ 0) → Stepped f division s left total (left - once) (total + x)
-stepped f division s left total once x some free given counts none = record {
+pub stepped : (value site left total once x : ℕ) → 0 < left → (site ≡ 0 → once ≡ 1) → ((site ≡ 0 → ⊥) → once ≡ 0)
+    → (once ≡ 1 → x ≡ value) → (once ≡ 0 → x ≡ 0) → Stepped value site left total (left - once) (total + x)
+stepped value site left total once x some free given counts none = record {
   counted = λ e. (omega (arith, free e), ap (λ (y : ℕ). total + y) (counts (free e)));
   passed = λ n. (omega (arith, given n), omega (arith, none (given n)));
 }
@@ -72,7 +76,7 @@ module _ (f : ℕ → ℕ) (line division : List ℕ) (q : ℕ) where
 
   -- one street more
   pub adding-more : (j left total left′ total′ : ℕ) → j < length line → 0 < left → f (at line j) ≤ 99000 → Adding f line division q j left total
-      → Stepped f division (at line j) left total left′ total′ → Adding f line division q (j + 1) left′ total′
+      → Stepped (f (at line j)) (at division (at line j)) left total left′ total′ → Adding f line division q (j + 1) left′ total′
   adding-more j left total left′ total′ l some small h step =
       by-cases (ℕ-discrete (at division (at line j)) 0) (λ e. counted e (step .counted e)) (λ n. passed n (step .passed n))
     where
@@ -98,6 +102,21 @@ module _ (f : ℕ → ℕ) (line division : List ℕ) (q : ℕ) where
   adding-end j left total l m h =
       let none : sum f (picked (drop j line) left division) ≡ 0 = rw (rest-none line j l m, picked-empty division left) refl in
       omega (arith, h .rest)
+
+  -- or a street has the value 0, and so have all that follow
+  pub adding-stop : Falls f line → (j left total : ℕ) → j < length line → f (at line j) ≡ 0 → Adding f line division q j left total
+      → total ≡ sum f (picked line q division)
+  adding-stop falls j left total l e h = omega (arith, h .rest, sum-le f (λ s. 0) rest worthless, sum-even 0 rest)
+    where
+      rest : List ℕ
+      rest = picked (drop j line) left division
+
+      worthless : (s : ℕ) → has s rest ≡ true → f s ≤ 0
+      worthless s in-rest =
+          let (i, short, here) = has-index s (drop j line) (only-has (free division) s (drop j line) (has-take left s _ in-rest) .0) in
+          let there : at line (j + i) ≡ s = sym (getD-drop j line i 0) ∙ here in
+          let fall : f (at line (j + i)) ≤ f (at line j) = falls j (j + i) (omega arith) (omega (arith, length-drop j line)) in
+          omega (arith, rw there at fall)
 
 -- the first q free streets of a line given to a site, of which the line from j on still has `left`
 pub record Giving (a : ℕ) (line before start : List ℕ) (q j left : ℕ) (division : List ℕ) : Type 0 where

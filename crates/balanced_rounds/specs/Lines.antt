@@ -30,10 +30,18 @@ pub record Lines (n m : ℕ) (orders : List ℕ) : Type 0 where
   pub size : length orders ≡ (m + 1) * n
   pub streets : (i : ℕ) → i < length orders → at orders i < n
 
--- one street more of a walk: a free one is counted, with f of it, and another is passed
-pub record Stepped (f : ℕ → ℕ) (division : List ℕ) (s left total left′ total′ : ℕ) : Type 0 where
-  pub counted : at division s ≡ 0 → (left′ + 1 ≡ left) × (total′ ≡ total + f s)
-  pub passed : (at division s ≡ 0 → ⊥) → (left′ ≡ left) × (total′ ≡ total)
+-- values that never rise along a line
+abbrev pub Falls : (ℕ → ℕ) → List ℕ → Type 0
+Falls v line = (i j : ℕ) → i ≤ j → j < length line → v (at line j) ≤ v (at line i)
+
+-- nor along the line of any site
+abbrev pub Falling : (ℕ → ℕ → ℕ) → ℕ → ℕ → List ℕ → Type 0
+Falling v n m orders = (a : ℕ) → a ≤ m → Falls (λ s. v s a) (rowOf n orders a)
+
+-- one street more of a walk, by its value and its site: a free one is counted, and another is passed
+pub record Stepped (value site left total left′ total′ : ℕ) : Type 0 where
+  pub counted : site ≡ 0 → (left′ + 1 ≡ left) × (total′ ≡ total + value)
+  pub passed : (site ≡ 0 → ⊥) → (left′ ≡ left) × (total′ ≡ total)
 
 -- the plan's state that an engine's state stands for
 abbrev pub stateOf : ℕ → State → plan.State

@@ -10,7 +10,7 @@ ghost use Rattle.survey.specs.Rows.{rowOf};
 ghost use Rattle.values.specs.Table.{Table, valueIn};
 ghost use Rattle.free_rounds.specs.Held.{unflagged};
 ghost use Rattle.balanced_plan.specs.Rounds.{worth, choice, taken, rounds, evenShare};
-ghost use Rattle.balanced_rounds.specs.Lines.{Orders, Lines, Held, picked, stateOf, emptyState};
+ghost use Rattle.balanced_rounds.specs.Lines.{Orders, Lines, Falling, Held, picked, stateOf, emptyState};
 
 mod walks;
 
@@ -32,7 +32,7 @@ fn worth_of(
     q: usize,
     a: usize,
 ) -> u32
-    requires { ⌜ Table (length (now division)) m (now values) × Lines (length (now division)) m (now orders) ⌝ }
+    requires { ⌜ Table (length (now division)) m (now values) × Lines (length (now division)) m (now orders) × Falling (valueIn (now values) m) (length (now division)) m (now orders) ⌝ }
     requires { ⌜ (length (now marks) ≡ 256) × (a ≤ m) × (q ≤ 400) ⌝ }
     ensures { λ r. ⌜ r ≡ sum (λ s. valueIn (now (values .entry)) m s a) (picked (rowOf (length (now (division .entry))) (now (orders .entry)) a) q (now (division .entry))) unless getD (now (marks .entry)) a false ⌝ }
 {
@@ -55,7 +55,7 @@ fn fill_worths(
     q: usize,
     worths: &mut [u32],
 )
-    requires { ⌜ Table (length (now division)) m (now values) × Lines (length (now division)) m (now orders) ⌝ }
+    requires { ⌜ Table (length (now division)) m (now values) × Lines (length (now division)) m (now orders) × Falling (valueIn (now values) m) (length (now division)) m (now orders) ⌝ }
     requires { ⌜ (length (now marks) ≡ 256) × (q ≤ 400) × (length (now worths) ≡ m + 1) ⌝ }
     ensures { λ _. ⌜ ((a : ℕ) → a ≤ m → at (now (worths .exit)) a ≡ sum (λ s. valueIn (now (values .entry)) m s a) (picked (rowOf (length (now (division .entry))) (now (orders .entry)) a) q (now (division .entry))) unless getD (now (marks .entry)) a false) ⌝ }
 {
@@ -73,7 +73,7 @@ fn choose(
     m: usize,
     q: usize,
 ) -> usize
-    requires { ⌜ Table (length (now division)) m (now values) × Lines (length (now division)) m (now orders) ⌝ }
+    requires { ⌜ Table (length (now division)) m (now values) × Lines (length (now division)) m (now orders) × Falling (valueIn (now values) m) (length (now division)) m (now orders) ⌝ }
     requires { ⌜ (length (now marks) ≡ 256) × (q ≤ 400) ⌝ }
     ensures site { λ r. ⌜ r ≤ m ⌝ }
     ensures choice { λ r. ⌜ ((key : ℕ → ℕ → ℕ) → Orders key (length (now (division .entry))) m (now (orders .entry)) → r ≡ greatest (unflagged (now (marks .entry))) (worth (valueIn (now (values .entry)) m) key q (now (division .entry))) m) ⌝ }
@@ -120,7 +120,7 @@ impl State {
 
     // One round: the site of greatest worth is chosen and takes its streets.
     pub fn round(mut self, values: &[u32], orders: &[u16], n: usize, m: usize, q: usize) -> Self
-        requires { ⌜ Table n m (now values) × Lines n m (now orders) ⌝ }
+        requires { ⌜ Table n m (now values) × Lines n m (now orders) × Falling (valueIn (now values) m) n m (now orders) ⌝ }
         requires { ⌜ Held self × (self .count < 64) × (q ≤ 400) ⌝ }
         ensures held { λ r. ⌜ Held r × (r .count ≡ self .count + 1) ⌝ }
         ensures state { λ r. ⌜ ((key : ℕ → ℕ → ℕ) → Orders key n m (now (orders .entry)) → stateOf n r ≡ taken key q (stateOf n self) (choice (valueIn (now (values .entry)) m) key m q (stateOf n self))) ⌝ }
@@ -135,7 +135,7 @@ impl State {
 
 // The state after k rounds, each with the share n / k.
 pub fn rounds(values: &[u32], orders: &[u16], n: usize, m: usize, k: usize) -> State
-    requires { ⌜ Table n m (now values) × Lines n m (now orders) ⌝ }
+    requires { ⌜ Table n m (now values) × Lines n m (now orders) × Falling (valueIn (now values) m) n m (now orders) ⌝ }
     requires { ⌜ (0 < k) × (k ≤ m) ⌝ }
     ensures held { λ r. ⌜ Held r × (r .count ≡ k) ⌝ }
     ensures state { λ r. ⌜ ((key : ℕ → ℕ → ℕ) → Orders key n m (now (orders .entry)) → stateOf n r ≡ rounds (valueIn (now (values .entry)) m) key n m (evenShare n k) k) ⌝ }

@@ -6,7 +6,7 @@ ghost use lib.ListN.{length};
 ghost use Rattle.counting.specs.Lists.{at, sum};
 ghost use Rattle.values.specs.Table.{Table, valueIn};
 ghost use Rattle.balanced_plan.specs.Rounds.{give};
-ghost use Rattle.balanced_rounds.specs.Lines.{Line, Stepped, picked};
+ghost use Rattle.balanced_rounds.specs.Lines.{Line, Falls, Stepped, picked};
 
 // How many streets are still to be found, and the sum of those found so far.
 struct Tally {
@@ -29,33 +29,37 @@ fn times(value: u32, once: u32) -> u32
     value * once
 }
 
-// One street more: a free one is counted.
-fn step(tally: Tally, values: &[u32], m: usize, division: &[u8], s: usize, a: usize) -> Tally
-    requires { ⌜ Table (length (now division)) m (now values) × (s < length (now division)) × (a ≤ m) ⌝ }
-    requires { ⌜ (0 < tally .left) × (tally .total ≤ 39600000) ⌝ }
-    ensures { λ r. ⌜ Stepped (λ t. valueIn (now (values .entry)) m t a) (now (division .entry)) s (tally .left) (tally .total) (r .left) (r .total) ⌝ }
+// One street more, by its value and its site: a free one is counted.
+fn step(tally: Tally, value: u32, site: u8) -> Tally
+    requires { ⌜ (0 < tally .left) × (tally .total ≤ 39600000) × (value ≤ 99000) ⌝ }
+    ensures { λ r. ⌜ Stepped value site (tally .left) (tally .total) (r .left) (r .total) ⌝ }
 {
-    let once = open(division[s]);
-    let w = m + 1;
+    let once = open(site);
     Tally {
         left: tally.left - once as usize,
-        total: tally.total + times(values[s * w + a], once),
+        total: tally.total + times(value, once),
     }
 }
 
-// The worth of a site: the summed value of the first q streets of its line that are free.
+// The worth of a site: the summed value of the first q streets of its line that are free. Values never rise along a line, so the walk ends
+// at the first street of value 0, free or not.
 pub fn worth(values: &[u32], m: usize, line: &[u16], division: &[u8], q: usize, a: usize) -> u32
-    requires { ⌜ Table (length (now division)) m (now values) × Line (now line) (now division) ⌝ }
+    requires { ⌜ Table (length (now division)) m (now values) × Line (now line) (now division) × Falls (λ s. valueIn (now values) m s a) (now line) ⌝ }
     requires { ⌜ (a ≤ m) × (q ≤ 400) ⌝ }
     ensures { λ r. ⌜ r ≡ sum (λ s. valueIn (now (values .entry)) m s a) (picked (now (line .entry)) q (now (division .entry))) ⌝ }
 {
+    let w = m + 1;
     let mut tally = Tally { left: q, total: 0 };
     for j in 0..line.len() {
         if tally.left == 0 {
             return tally.total;
         }
         let s = line[j] as usize;
-        tally = step(tally, values, m, division, s, a);
+        let value = values[s * w + a];
+        if value == 0 {
+            return tally.total;
+        }
+        tally = step(tally, value, division[s]);
     }
     tally.total
 }

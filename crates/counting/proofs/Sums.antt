@@ -1,7 +1,7 @@
 -- Laws of sums and lists that a function makes, and of what stands at an index.
 -- Assumes nothing.
 use mathlib.Core.Path.{_≡_, refl, sym, _∙_}
-use mathlib.Core.Bool.{true, false≢true}
+use mathlib.Core.Bool.{true, not, true≢false, false≢true, and-eq-true-iff}
 use mathlib.Core.Logic.{_≢_, ⊎-elim, by-cases}
 use mathlib.Core.List.{List, [], _∷_, _++_}
 use Prim.Native.Nat.{ℕ, zero, suc, _+_, _*_, _≤_, _<_}
@@ -10,11 +10,11 @@ use native.Mathlib.Decide.{ℕ-discrete}
 use native.Mathlib.Numerals.{add-one}
 use native.Mathlib.Omega.{arith}
 use lib.Dec.{eqb}
-use borrow.Author.Tests.{eqb-true}
+use borrow.Author.Tests.{eqb-true, not-true}
 use lib.ListN.{length, take, length-append, List·getD-append, List·getD-eq-default}
 use lib.Seq.{take-suc, getD-at}
 use Rattle.counting.specs.Words.{sumOf}
-use Rattle.counting.specs.Lists.{at, has}
+use Rattle.counting.specs.Lists.{at, has, distinct}
 use Rattle.counting.specs.Buffers.{joined, listOf}
 use Rattle.counting.proofs.Membership.{has-head, has-tail, or-cases}
 
@@ -50,6 +50,11 @@ sumOf-more (suc n) f g b x l e h =
     let last : b ≡ n → sumOf (suc n) f ≡ sumOf (suc n) g + x = λ q. omega (arith, rw q at e, sumOf-same n f g (λ i k. h i (omega arith))) in
     by-cases (ℕ-discrete b n) last (λ d. omega (arith, h n (omega arith), sumOf-more n f g b x (omega arith) e h))
 
+-- a sum of more numbers is no less
+pub sumOf-upto : (f : ℕ → ℕ) (i n : ℕ) → i ≤ n → sumOf i f ≤ sumOf n f
+sumOf-upto f i zero l = ⊎-elim (λ e. rw e (omega arith)) (λ k. absurd (omega arith)) (eq-or-lt-of-le l)
+sumOf-upto f i (suc n) l = ⊎-elim (λ e. rw e (omega arith)) (λ k. omega (arith, sumOf-upto f i n (omega arith))) (eq-or-lt-of-le l)
+
 -- the first number of a sum apart
 pub sumOf-front : (n : ℕ) (f : ℕ → ℕ) → sumOf (suc n) f ≡ f 0 + sumOf n (λ i. f (suc i))
 sumOf-front zero f = omega arith
@@ -65,6 +70,16 @@ pub has-at : (S : List ℕ) (i : ℕ) → i < length S → has (at S i) S ≡ tr
 has-at [] i l = absurd (omega arith)
 has-at (a ∷ S) zero l = has-head a S
 has-at (a ∷ S) (suc i) l = has-tail (at S i) a S (has-at S i (le-of-suc-le-suc l))
+
+-- where no number stands in a list twice, those at two indices are different
+pub distinct-at : (S : List ℕ) (i j : ℕ) → distinct S ≡ true → i < j → j < length S → at S i ≢ at S j
+distinct-at [] i j d l m e = absurd (omega arith)
+distinct-at (a ∷ S) i zero d l m e = absurd (omega arith)
+distinct-at (a ∷ S) zero (suc j) d l m e =
+    let (new, apart) = and-eq-true-iff (not (has a S)) (distinct S) .0 d in
+    let in-list : has a S ≡ true = rw (sym e) at (has-at S j (omega arith)) in
+    true≢false (sym in-list ∙ not-true (has a S) new)
+distinct-at (a ∷ S) (suc i) (suc j) d l m e = distinct-at S i j (and-eq-true-iff (not (has a S)) (distinct S) .0 d .1) (omega arith) (omega arith) e
 
 -- one number more is added
 pub sumOf-next : (n : ℕ) (f : ℕ → ℕ) → sumOf (n + 1) f ≡ sumOf n f + f n

@@ -2,10 +2,11 @@
 -- Assumes nothing.
 use mathlib.Core.Path.{_≡_, refl, sym, _∙_}
 use mathlib.Core.Bool.{true, false}
-use mathlib.Core.Logic.{_≢_}
+use mathlib.Core.Logic.{_≢_, by-cases}
 use mathlib.Core.List.{List}
 use Prim.Native.Nat.{ℕ, zero, suc, _+_, _*_, _≤_, _<_}
 use native.Mathlib.Nat.{mul-le-mul-right}
+use native.Mathlib.Decide.{decLt}
 use native.Mathlib.Omega.{arith}
 use lib.Dec.{eqb}
 use lib.ListN.{length}
@@ -22,6 +23,15 @@ row-within n w s l = omega (arith, mul-le-mul-right {m = s + 1} {n = n} w (omega
 -- so does each column of it
 pub in-rows : (s n w b : ℕ) → s < n → b < w → s * w + b < n * w
 in-rows s n w b l m = omega (arith, row-within n w s l)
+
+-- entries of an earlier row and of a later row stand at different indices
+earlier-row : (n a b s t : ℕ) → s < n → t < n → a < b → a * n + s ≢ b * n + t
+earlier-row n a b s t l k u e = omega (arith, row-within b n a u)
+
+-- so do entries of any two rows
+pub rows-apart : (n a b s t : ℕ) → s < n → t < n → a ≢ b → a * n + s ≢ b * n + t
+rows-apart n a b s t l k d e =
+    by-cases (decLt a b) (λ u. earlier-row n a b s t l k u e) (λ u. earlier-row n b a t s k l (omega arith) (sym e))
 
 module _ (n : ℕ) (f : ℕ → ℕ) where
   -- a number that is none of f 0, f 1, .. does not stand in their list

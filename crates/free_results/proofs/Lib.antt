@@ -1,3 +1,4 @@
 pub mod Tabled
 pub mod Results
 pub mod Scored
+pub mod Serving

@@ -3,29 +3,23 @@ ghost use mathlib.Core.Path.{_≡_};
 ghost use mathlib.Core.Bool.{false};
 ghost use Prim.Native.Nat.{_+_, _*_, _≤_};
 ghost use lib.ListN.{length, getD};
-ghost use Rattle.counting.specs.Words.{_when_};
 ghost use Rattle.counting.specs.Buffers.{listOf};
-ghost use Rattle.survey.specs.Rows.{listOfStreet};
+ghost use Rattle.survey.specs.Rows.{rankedPart, listOfStreet};
 ghost use Rattle.free_plan.specs.Greedy.{goesTo};
 
-// A site where it is chosen, else 0.
-fn kept(site: u8, chosen: bool) -> u8
-    ensures { λ r. ⌜ r ≡ site when chosen ⌝ }
-{
-    if chosen { site } else { 0 }
-}
-
-// The first site of a list that is flagged, 0 if none is.
-fn first_flagged(list: &[u8], marks: &[bool]) -> u8
+// Where a street with this row goes. One look at the row is enough: its first zero ends the ranked part, and the first site that is chosen wins.
+fn first_flagged(row: &[u8], marks: &[bool]) -> u8
     requires { ⌜ length (now marks) ≡ 256 ⌝ }
-    ensures { λ r. ⌜ r ≡ goesTo (λ a. getD (now (marks .entry)) a false) (now (list .entry)) ⌝ }
+    ensures { λ r. ⌜ r ≡ goesTo (λ a. getD (now (marks .entry)) a false) (rankedPart (now (row .entry))) ⌝ }
 {
-    for j in 0..list.len() {
-        let site = list[j];
+    for j in 0..row.len() {
+        let site = row[j];
+        if site == 0 {
+            return 0;
+        }
         let flag = site as usize;
-        let r = kept(site, marks[flag]);
-        if r != 0 {
-            return r;
+        if marks[flag] {
+            return site;
         }
     }
     0
@@ -38,7 +32,7 @@ fn street(rows: &[u8], m: usize, s: usize, marks: &[bool]) -> u8
 {
     let from = s * m;
     let to = from + m;
-    first_flagged(survey::rows::ranked(&rows[from..to]), marks)
+    first_flagged(&rows[from..to], marks)
 }
 
 // Each street goes to the first of its list that is chosen, 0 if none is.

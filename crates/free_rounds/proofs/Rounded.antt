@@ -39,19 +39,19 @@ held-none v n =
     nought s (no l) = at-past (replicate 400 0) s (rw length-replicate (omega arith))
 
 -- no site raises the total of none by more than 400 times the greatest value
-bounds-none : (v : ℕ → ℕ → ℕ) (n : ℕ) → n ≤ 400 → ((s a : ℕ) → v s a ≤ 99000) → Bounds v n emptyState
+bounds-none : (v : ℕ → ℕ → ℕ) (n : ℕ) → n ≤ 400 → ((s a : ℕ) → v s a ≤ 1000) → Bounds v n emptyState
 bounds-none v n few low =
     record {
-      size = length-replicate {A = ℕ} 65 39600000;
-      right = λ a l. omega (arith, getD-replicate {A = ℕ} 65 a 39600000 0 l, total-bound v n (a ∷ []) 99000 (λ s k b. low s b));
+      size = length-replicate {A = ℕ} 65 400000;
+      right = λ a l. omega (arith, getD-replicate {A = ℕ} 65 a 400000 0 l, total-bound v n (a ∷ []) 1000 (λ s k b. low s b));
       small = λ a. small a (decLt a 65);
     }
   where
-    small : (a : ℕ) → Dec (a < 65) → at (replicate 65 39600000) a ≤ 39600000
-    small a (yes l) = omega (arith, getD-replicate {A = ℕ} 65 a 39600000 0 l)
-    small a (no l) = omega (arith, at-past (replicate 65 39600000) a (rw length-replicate (omega arith)))
+    small : (a : ℕ) → Dec (a < 65) → at (replicate 65 400000) a ≤ 400000
+    small a (yes l) = omega (arith, getD-replicate {A = ℕ} 65 a 400000 0 l)
+    small a (no l) = omega (arith, at-past (replicate 65 400000) a (rw length-replicate (omega arith)))
 
-pub start-holds : (v : ℕ → ℕ → ℕ) (n : ℕ) (state : State) → n ≤ 400 → ((s a : ℕ) → v s a ≤ 99000) → state ≡ emptyState
+pub start-holds : (v : ℕ → ℕ → ℕ) (n : ℕ) (state : State) → n ≤ 400 → ((s a : ℕ) → v s a ≤ 1000) → state ≡ emptyState
     → (state .count ≡ 0) × (sitesOf state ≡ []) × Held v n state × Bounds v n state
 start-holds v n state few low e = rw e (refl, refl, held-none v n, bounds-none v n few low)
 
@@ -117,11 +117,11 @@ pub held-bounds : (v : ℕ → ℕ → ℕ) (n : ℕ) (state : State) (bounds : 
 held-bounds v n state bounds h = record { chosen-size = h .chosen-size; bests-size = h .bests-size; marks = h .marks; bests = h .bests }
 
 -- each street's best is a score
-pub bests-small : (v : ℕ → ℕ → ℕ) (n : ℕ) (state : State) → Held v n state → ((s a : ℕ) → v s a ≤ 99000) → Scores (take n (state .bests))
+pub bests-small : (v : ℕ → ℕ → ℕ) (n : ℕ) (state : State) → Held v n state → ((s a : ℕ) → v s a ≤ 1000) → Scores (take n (state .bests))
 bests-small v n state h low s = go (decLt s n)
   where
-    go : Dec (s < n) → at (take n (state .bests)) s ≤ 99000
-    go (yes l) = rw (getD-take n (state .bests) s 0 l, h .bests s l) (best-le (v s) 99000 (sitesOf state) (λ a i. low s a))
+    go : Dec (s < n) → at (take n (state .bests)) s ≤ 1000
+    go (yes l) = rw (getD-take n (state .bests) s 0 l, h .bests s l) (best-le (v s) 1000 (sitesOf state) (λ a i. low s a))
     go (no l) = rw (at-past (take n (state .bests)) s (omega (arith, length-take n (state .bests)))) (omega arith)
 
 -- the sum of the better of best and value is the total with the site

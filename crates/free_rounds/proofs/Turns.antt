@@ -4,8 +4,8 @@ use mathlib.Core.Path.{_≡_, refl, sym, ap, _∙_}
 use mathlib.Core.Bool.{Bool, true, false, not, _&&_}
 use mathlib.Core.Logic.{_≢_, by-cases}
 use mathlib.Core.List.{List}
-use Prim.Native.Nat.{ℕ, suc, _+_, _-_, _*_, _≤_, _<_, max}
-use native.Mathlib.Nat.{le-antisymm, mul-le-mul}
+use Prim.Native.Nat.{ℕ, zero, suc, _+_, _-_, _*_, _≤_, _<_, min, max}
+use native.Mathlib.Nat.{add-zero, add-suc, le-antisymm, mul-le-mul}
 use native.Mathlib.Numerals.{add-one}
 use native.Mathlib.Omega.{arith}
 use native.Mathlib.Decide.{ℕ-discrete, decLt}
@@ -68,7 +68,7 @@ pass-turn worth flags i b y x hope s l e k =
 -- ---- the bounds of the sites' rises
 module _ (worth : ℕ → ℕ) (so : ℕ) (bounds : List ℕ) (h : Bounded worth so bounds) where
   -- a site's rise is its new bound
-  pub bounded-set : (a x y : ℕ) → a < 65 → x ≡ worth a → y ≡ so → so ≤ worth a → worth a ≤ 39600000 → Bounded worth so (set bounds a (x - y))
+  pub bounded-set : (a x y : ℕ) → a < 65 → x ≡ worth a → y ≡ so → so ≤ worth a → worth a ≤ 400000 → Bounded worth so (set bounds a (x - y))
   bounded-set a x y l e q low high =
       record {
         size = length-set bounds a (x - y) ∙ h .size;
@@ -90,6 +90,60 @@ module _ (worth : ℕ → ℕ) (so : ℕ) (bounds : List ℕ) (h : Bounded worth
 pub sum-turn : (f : ℕ → ℕ) (s total x : ℕ) → total ≡ sumOf s f → x ≡ f s → total + x ≡ sumOf (s + 1) f
 sum-turn f s total x e q = ap (λ (y : ℕ). y + x) e ∙ ap (λ (y : ℕ). sumOf s f + y) q ∙ sym (sumOf-next s f)
 
+-- a sum of scores is at most 1,000 for each
+sum-small : (n : ℕ) (f : ℕ → ℕ) → ((s : ℕ) → f s ≤ 1000) → sumOf n f ≤ n * 1000
+sum-small n f low = omega (arith, sumOf-le n f (λ s. 1000) (λ s l. low s), sumOf-even n 1000)
+
+-- ---- a sum by parts
+-- scores stay scores in a part
+part-small : (from to : ℕ) (xs : List ℕ) → to ≤ length xs → Scores xs → Scores (part from to xs)
+part-small from to xs l low s =
+    by-cases (decLt s (to - from)) (λ k. omega (arith, part-at from to xs l s (omega arith), low (from + s)))
+    (λ k. omega (arith, at-past (part from to xs) s (omega (arith, part-length from to xs l))))
+
+-- a sum in two parts
+sum-parts : (a b : ℕ) (f : ℕ → ℕ) → sumOf (a + b) f ≡ sumOf a f + sumOf b (λ i. f (a + i))
+sum-parts a zero f = rw add-zero (omega arith)
+sum-parts a (suc b) f = rw add-suc (omega (arith, sum-parts a b f))
+
+module _ (from to : ℕ) (bests row : List ℕ) (b : Beside bests row) (e : to ≡ min (from + 64) (length bests)) where
+  -- the streets of a part
+  part-size : length (part from to bests) ≡ to - from
+  part-size = part-length from to bests (omega arith)
+
+  -- a part of the bests stands beside the same part of the row, and has few streets
+  pub part-ready : Beside (part from to bests) (part from to row) × (length (part from to bests) ≤ 64)
+  part-ready = (
+    record {
+      size = part-length from to row (omega (arith, b .size)) ∙ sym part-size;
+      few = omega (arith, part-size, b .few);
+      small-bests = part-small from to bests (omega arith) (b .small-bests);
+      small = part-small from to row (omega (arith, b .size)) (b .small);
+    },
+    omega (arith, part-size),
+  )
+
+  -- with its sum the streets up to its end are summed, which is not great
+  pub part-turn : (total x : ℕ) → from < length bests → total ≡ sumOf from (λ s. max (at bests s) (at row s))
+      → x ≡ sumOf (length (part from to bests)) (λ s. max (at (part from to bests) s) (at (part from to row) s))
+      → (total + x ≡ sumOf to (λ s. max (at bests s) (at row s))) × (total + x ≤ 400000)
+  part-turn total x l h q = (sum, omega (arith, sum, sum-small to f (λ s. omega (arith, b .small-bests s, b .small s)), b .few))
+    where
+      f : ℕ → ℕ
+      f s = max (at bests s) (at row s)
+
+      same : (s : ℕ) → s < to - from → max (at (part from to bests) s) (at (part from to row) s) ≡ f (from + s)
+      same s k = omega (arith, part-at from to bests (omega arith) s (omega arith), part-at from to row (omega (arith, b .size)) s (omega arith))
+
+      own : x ≡ sumOf (to - from) (λ s. f (from + s))
+      own = rw part-size at q ∙ sumOf-same (to - from) _ _ same
+
+      end : from + (to - from) ≡ to
+      end = omega arith
+
+      sum : total + x ≡ sumOf to f
+      sum = omega (arith, own, rw end at (sum-parts from (to - from) f))
+
 -- ---- a site's row of the table
 module _ (n m a : ℕ) (values : List ℕ) (t : Table n m values) (l : a ≤ m) where
   -- it ends within the table, which is not long
@@ -107,9 +161,7 @@ module _ (n m a : ℕ) (values : List ℕ) (t : Table n m values) (l : a ≤ m) 
   row-at s k = part-at (a * n) (a * n + n) values (row-ends .0) s (omega arith)
 
   row-small : Scores (part (a * n) (a * n + n) values)
-  row-small s =
-      by-cases (decLt s n) (λ k. omega (arith, row-at s k, t .small (a * n + s)))
-      (λ k. omega (arith, at-past (part (a * n) (a * n + n) values) s (omega (arith, row-length))))
+  row-small = part-small (a * n) (a * n + n) values (row-ends .0) (t .small)
 
 -- the part of the table that is lent for a site stands beside the bests
 pub row-beside : (m a : ℕ) (values bests : List ℕ) → Table (length bests) m values → a ≤ m → Scores bests
@@ -130,11 +182,10 @@ row-sum m a values bests r t l e =
     e ∙ sumOf-same (length bests) _ _ (λ s k. ap (λ (x : ℕ). max (at bests s) x) (row-at (length bests) m a values t l s k))
 
 -- no total is above 400 times the greatest value
-pub with-small : (m a : ℕ) (values bests : List ℕ) → Table (length bests) m values → Scores bests → withSite values bests a ≤ 39600000
+pub with-small : (m a : ℕ) (values bests : List ℕ) → Table (length bests) m values → Scores bests → withSite values bests a ≤ 400000
 with-small m a values bests t low =
     let n : ℕ = length bests in
-    omega
-    (arith, sumOf-le n (λ s. max (at bests s) (siteValue values n s a)) (λ s. 99000) (λ s l. omega (arith, low s, t .small (a * n + s))), sumOf-even n 99000, t .few-streets)
+    omega (arith, sum-small n (λ s. max (at bests s) (siteValue values n s a)) (λ s. omega (arith, low s, t .small (a * n + s))), t .few-streets)
 
 -- the total without the site is no greater
 pub with-most : (a : ℕ) (values bests : List ℕ) → sumOf (length bests) (at bests) ≤ withSite values bests a

@@ -19,7 +19,7 @@ sitesOf state = take (state .count) (state .chosen)
 
 -- the state in which none is chosen
 abbrev pub emptyState : State
-emptyState = record { chosen = replicate 64 0; count = 0; marks = replicate 256 false; bests = replicate 400 0; bounds = replicate 65 39600000 }
+emptyState = record { chosen = replicate 64 0; count = 0; marks = replicate 256 false; bests = replicate 400 0; bounds = replicate 65 400000 }
 
 -- the state holds the flags of its sites, and for each street the best score that they give it
 pub record Held (v : ℕ → ℕ → ℕ) (n : ℕ) (state : State) : Type 0 where
@@ -32,15 +32,15 @@ pub record Held (v : ℕ → ℕ → ℕ) (n : ℕ) (state : State) : Type 0 whe
 pub record Bounded (worth : ℕ → ℕ) (so : ℕ) (bounds : List ℕ) : Type 0 where
   pub size : length bounds ≡ 65
   pub right : (a : ℕ) → a < 65 → worth a ≤ so + at bounds a
-  pub small : (a : ℕ) → at bounds a ≤ 39600000
+  pub small : (a : ℕ) → at bounds a ≤ 400000
 
 -- the state's bounds are bounds of what the sites raise its total by
 abbrev pub Bounds : (ℕ → ℕ → ℕ) → ℕ → State → Type 0
 Bounds v n state = Bounded (totalWith v n (sitesOf state)) (total v n (sitesOf state)) (state .bounds)
 
--- each score is at most 99,000
+-- each score is at most 1,000
 abbrev pub Scores : List ℕ → Type 0
-Scores scores = (s : ℕ) → at scores s ≤ 99000
+Scores scores = (s : ℕ) → at scores s ≤ 1000
 
 -- the streets' bests beside as many values of a site
 pub record Beside (bests row : List ℕ) : Type 0 where

@@ -31,7 +31,7 @@ impl State {
             count: 0,
             marks: [false; 256],
             bests: [0u16; 400],
-            bounds: [39600000u32; 65],
+            bounds: [400000u32; 65],
         }
     }
 

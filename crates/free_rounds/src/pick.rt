@@ -17,7 +17,7 @@ pub struct Found {
 
 // The mark of a site: 0 where it is taken, and 1 more than its sum where it is not.
 fn mark(sum: u32, taken: bool) -> u32
-    requires { ⌜ sum ≤ 79200000 ⌝ }
+    requires { ⌜ sum ≤ 39600000 ⌝ }
     ensures { λ r. ⌜ r ≡ (sum + 1) unless taken ⌝ }
 {
     if taken {

@@ -1,6 +1,6 @@
 // Sums over the streets. A site's values stand side by side, so that each sum runs over neighbours and stores nothing on its way.
 ghost use mathlib.Core.Path.{_≡_};
-ghost use Prim.Native.Nat.{_≤_, max};
+ghost use Prim.Native.Nat.{_+_, _≤_, min, max};
 ghost use lib.ListN.{length};
 ghost use Rattle.counting.specs.Words.{sumOf};
 ghost use Rattle.counting.specs.Lists.{at};
@@ -31,14 +31,39 @@ pub fn raise(bests: &mut [u16], row: &[u16])
     }
 }
 
+// A part of the sum below, over at most 64 streets: it fits 16 bits, so that twice as many streets are added at once as in 32.
+fn part(bests: &[u16], row: &[u16]) -> u16
+    requires { ⌜ Beside (now bests) (now row) × (length (now bests) ≤ 64) ⌝ }
+    ensures { λ r. ⌜ r ≡ sumOf (length (now (bests .entry))) (λ s. max (at (now (bests .entry)) s) (at (now (row .entry)) s)) ⌝ }
+{
+    let mut sum: u16 = 0;
+    for s in 0..bests.len() {
+        sum = sum + greater(bests[s], row[s]);
+    }
+    sum
+}
+
+// The end of the part that starts at a street, of n streets.
+fn part_end(from: usize, n: usize) -> usize
+    requires { ⌜ from ≤ 400 ⌝ }
+    ensures { λ r. ⌜ r ≡ min (from + 64) n ⌝ }
+{
+    let to = from + 64;
+    if to < n { to } else { n }
+}
+
 // The total with a site besides: the sum over the streets of the better of the street's best and the site's value.
 pub fn sum_with(bests: &[u16], row: &[u16]) -> u32
     requires { ⌜ Beside (now bests) (now row) ⌝ }
     ensures { λ r. ⌜ r ≡ sumOf (length (now (bests .entry))) (λ s. max (at (now (bests .entry)) s) (at (now (row .entry)) s)) ⌝ }
 {
+    let n = bests.len();
     let mut raised: u32 = 0;
-    for s in 0..bests.len() {
-        raised = raised + wide(greater(bests[s], row[s]));
+    let mut from = 0;
+    while from < n {
+        let to = part_end(from, n);
+        raised = raised + wide(part(&bests[from..to], &row[from..to]));
+        from = to;
     }
     raised
 }

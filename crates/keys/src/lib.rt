@@ -1,14 +1,15 @@
 // The table of keys by which a balanced round orders the streets for a site, filled once from the rows of a survey.
 // It is by site: a row of n keys for each of the sites 0, 1, .., m.
 ghost use mathlib.Core.Path.{_≡_};
-ghost use Prim.Native.Nat.{ℕ, _+_, _*_, _≤_, _<_};
+ghost use Prim.Native.Nat.{ℕ, suc, _+_, _*_, _≤_, _<_};
 ghost use lib.ListN.{length};
+ghost use Rattle.counting.specs.Words.{_orElse_};
 ghost use Rattle.counting.specs.Lists.{cell};
 ghost use Rattle.counting.specs.Buffers.{Mapped};
 ghost use Rattle.survey.specs.Rows.{rowOf, placeOf};
 ghost use Rattle.survey.specs.Accepted.{SoundRow};
+ghost use Rattle.survey.specs.BySite.{Ranked, Room, Unread, Entered};
 ghost use Rattle.balanced_plan.specs.Rounds.{placeKey};
-ghost use Rattle.keys.specs.Table.{Ranked, Room, Unkeyed, Keyed};
 
 // Before any row is read, every street comes last at every site.
 fn fill_last(keys: &mut [u32], last: u32)
@@ -23,8 +24,8 @@ fn fill_last(keys: &mut [u32], last: u32)
 fn fill_street(n: usize, s: usize, row: &[u8], keys: &mut [u32])
     requires { ⌜ SoundRow (length (now row)) (now row) ⌝ }
     requires { ⌜ Room n s (length (now row)) (now keys) ⌝ }
-    requires { ⌜ Unkeyed n s (length (now row)) (now keys) ⌝ }
-    ensures { λ _. ⌜ Keyed n s (now (row .entry)) (now (keys .entry)) (now (keys .exit)) ⌝ }
+    requires { ⌜ Unread (λ p. p orElse suc (length (now row))) n s (length (now row)) (now keys) ⌝ }
+    ensures { λ _. ⌜ Entered (λ p. p orElse suc (length (now (row .entry)))) n s (now (row .entry)) (now (keys .entry)) (now (keys .exit)) ⌝ }
 {
     for j in 0..row.len() {
         let b = row[j];

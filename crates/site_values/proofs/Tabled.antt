@@ -10,10 +10,20 @@ use lib.ListN.{length, take, replicate}
 use Rattle.counting.specs.Lists.{at}
 use Rattle.counting.proofs.Sums.{at-past}
 use Rattle.counting.proofs.Parts.{front-length, front-blank, back-is, back-room, back-size}
-use Rattle.survey.specs.Rows.{value}
+use Rattle.survey.specs.Rows.{scoreAt, value}
 use Rattle.survey.specs.Accepted.{Accepted}
-use Rattle.survey.proofs.Places.{valued-bound}
+use Rattle.survey.proofs.Places.{score-none, valued-bound}
+use Rattle.survey.proofs.BySite.{Filled, filled-none, filled-all}
 use Rattle.site_values.specs.Table.{Blank, Valued, Table, siteValue}
+
+-- a blank table holds the scores of no street
+pub table-start : (n m : ℕ) (scores rows values : List ℕ) → Blank n m values → Filled (scoreAt scores) n m rows values 0
+table-start n m scores rows values b =
+    filled-none (scoreAt scores) n m rows values (b .size) (λ i l. b .none i ∙ sym (score-none scores))
+
+-- one with the scores of all streets holds the survey's values
+pub table-end : (n m : ℕ) (scores rows values : List ℕ) (s : ℕ) → n ≤ s → Filled (scoreAt scores) n m rows values s → Valued (value m scores rows) n m values
+table-end n m scores rows values s l p = record { size = p .size; right = λ t a k u. filled-all l p a t u k }
 
 module _ (n m : ℕ) (scores rows : List ℕ) (ok : Accepted n m scores rows) where
   -- the table fits its array
@@ -35,7 +45,7 @@ module _ (n m : ℕ) (scores rows : List ℕ) (ok : Accepted n m scores rows) wh
     table-size = sym (back-size ((m + 1) * n) table rest (h .size))
 
     -- each entry is some street's value
-    small : (i : ℕ) → Dec (i < (m + 1) * n) → at table i ≤ 99000
+    small : (i : ℕ) → Dec (i < (m + 1) * n) → at table i ≤ 1000
     small i (yes l) =
         let some : 0 < n = ok .some-street in
         let a : ℕ = i / n in

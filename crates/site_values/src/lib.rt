@@ -2,16 +2,17 @@
 // It is for an engine that sums a site's values over the streets: these stand side by side.
 ghost use mathlib.Core.Path.{_≡_};
 ghost use lib.ListN.{length};
-ghost use Rattle.survey.specs.Rows.{value};
+ghost use Rattle.survey.specs.Rows.{scoreAt, value};
 ghost use Rattle.survey.specs.Accepted.{SoundRow, Accepted};
-ghost use Rattle.site_values.specs.Table.{Blank, Valued, Room, Unscored, Scored};
+ghost use Rattle.survey.specs.BySite.{Room, Unread, Entered};
+ghost use Rattle.site_values.specs.Table.{Blank, Valued};
 
 // The street s gets the score at the place of each site that it ranked. Any other site keeps its 0, so the row is read once.
 fn fill_street(n: usize, s: usize, scores: &[u16], row: &[u8], values: &mut [u16])
     requires sound { ⌜ SoundRow (length (now row)) (now row) × (length (now scores) ≡ length (now row)) ⌝ }
     requires room { ⌜ Room n s (length (now row)) (now values) ⌝ }
-    requires blank { ⌜ Unscored n s (length (now row)) (now values) ⌝ }
-    ensures { λ _. ⌜ Scored n s (now (scores .entry)) (now (row .entry)) (now (values .entry)) (now (values .exit)) ⌝ }
+    requires blank { ⌜ Unread (scoreAt (now scores)) n s (length (now row)) (now values) ⌝ }
+    ensures { λ _. ⌜ Entered (scoreAt (now (scores .entry))) n s (now (row .entry)) (now (values .entry)) (now (values .exit)) ⌝ }
 {
     for j in 0..row.len() {
         let b = row[j];

@@ -2,3 +2,6 @@ pub mod Laws
 pub mod Sound
 pub mod Places
 pub mod Lists
+pub mod BySite
+pub mod Ones
+pub mod Bits

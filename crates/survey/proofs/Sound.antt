@@ -9,10 +9,10 @@ use native.Mathlib.Nat.{eq-zero-or-pos}
 use native.Mathlib.Omega.{arith}
 use lib.Dec.{ltb, eqb, lit<}
 use lib.ListN.{length, take}
-use borrow.Author.Tests.{ltb-false, lt-ltb, ne-eqb}
+use borrow.Author.Tests.{ltb-false, lt-ltb, le-ltb, eq-eqb, ne-eqb}
 use Rattle.counting.specs.Words.{_when_, _orElse_}
 use Rattle.counting.specs.Lists.{at, has}
-use Rattle.counting.proofs.Refusals.{or-zero, when-zero, unless-is, within, exact, first-none}
+use Rattle.counting.proofs.Refusals.{skip, or-zero, when-none, when-zero, unless-none, unless-is, within, exact, first-none, first-zeros}
 use Rattle.survey.specs.Rows.{rowOf}
 use Rattle.survey.specs.Refusals.{scoreRefusal, scoresRefusal, siteRefusal, byteRefusal, rowRefusal, streetRefusal, rowsRefusal, lengthRefusal, streetsRefusal, sitesRefusal, chosenRefusal, surveyRefusal}
 use Rattle.survey.specs.Accepted.{SoundRow, SoundScores, Accepted}
@@ -53,6 +53,20 @@ sound-row m row e =
 
     named-at : (j b : ℕ) → siteRefusal m (has 0 (take j row)) (has b (take j row)) b ≡ 0 → b ≤ m
     named-at j b h = ⊎-elim (λ z. rw z zero-le) (λ p. site-sound m _ _ b p h .1) (eq-zero-or-pos b)
+
+-- a byte of a row that is 0 or sound is not refused
+site-accepted : (m : ℕ) (ended again : Bool) (b : ℕ) → (0 < b → (ended ≡ false) × (b ≤ m) × (again ≡ false)) → siteRefusal m ended again b ≡ 0
+site-accepted m ended again b h =
+    ⊎-elim (λ z. sym (unless-none _ (eqb b 0) (eq-eqb b 0 z)))
+    (λ p.
+    let (x, y, z) = h p in
+    sym (unless-is 0 _ (eqb b 0) (ne-eqb b 0 (λ q. omega arith)) (skip 0 9 ended _ x (skip 0 10 (ltb m b) _ (le-ltb m b y) (when-none 11 again z)))))
+    (eq-zero-or-pos b)
+
+-- and a sound row is accepted
+pub row-accepted : (m : ℕ) (row : List ℕ) → SoundRow m row → rowRefusal m row ≡ 0
+row-accepted m row sound =
+    first-zeros (length row) (byteRefusal m row) (λ j l. site-accepted m _ _ (at row j) (λ p. (sound .closed j l p, sound .named j l, sound .once j l p)))
 
 module _ (n m k own : ℕ) (scores rows : List ℕ) (e : surveyRefusal n m k own scores rows ≡ 0) where
   -- the tries behind the first two, behind 3, and so on

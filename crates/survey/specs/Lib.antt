@@ -1,3 +1,5 @@
 pub mod Rows
 pub mod Refusals
 pub mod Accepted
+pub mod BySite
+pub mod Bits

@@ -1,9 +1,11 @@
 // What is turned down in a survey: each function gives the number that its definition gives, and 0 where there is nothing to refuse.
 use crate::Survey;
+use crate::quick;
 ghost use mathlib.Core.Path.{_≡_};
 ghost use Prim.Native.Nat.{_+_, _*_, _≤_, _<_};
 ghost use lib.ListN.{length};
-ghost use Rattle.survey.specs.Refusals.{scoreRefusal, scoresRefusal, siteRefusal, rowRefusal, streetRefusal, rowsRefusal, surveyRefusal};
+ghost use Rattle.survey.specs.Bits.{SiteBits};
+ghost use Rattle.survey.specs.Refusals.{mostSites, scoreRefusal, scoresRefusal, siteRefusal, rowRefusal, streetRefusal, rowsRefusal, surveyRefusal};
 
 // 8: one score.
 fn score_refusal(scores: &[u16], i: usize) -> u8
@@ -71,23 +73,31 @@ pub fn row_refusal(m: usize, row: &[u8]) -> u8
     0
 }
 
-// The row of one street.
-fn street_refusal(m: usize, rows: &[u8], i: usize) -> u8
+// The row of one street: byte by byte only where the bits do not show that it is sound.
+fn street_refusal(m: usize, bits: &[u64; 256], rows: &[u8], i: usize) -> u8
     requires { ⌜ i * m + m ≤ length (now rows) ⌝ }
+    requires { ⌜ m ≤ mostSites ⌝ }
+    requires { ⌜ SiteBits m (now bits) ⌝ }
     ensures { λ r. ⌜ r ≡ streetRefusal m (now (rows .entry)) i ⌝ }
 {
     let from = i * m;
     let to = from + m;
-    row_refusal(m, &rows[from..to])
+    let row = &rows[from..to];
+    if quick::is_sound(row, bits) {
+        return 0;
+    }
+    row_refusal(m, row)
 }
 
 // The rows, by street and byte.
 pub fn rows_refusal(n: usize, m: usize, rows: &[u8]) -> u8
     requires { ⌜ n * m ≤ length (now rows) ⌝ }
+    requires { ⌜ m ≤ mostSites ⌝ }
     ensures { λ r. ⌜ r ≡ rowsRefusal n m (now (rows .entry)) ⌝ }
 {
+    let bits = quick::site_bits(m);
     for i in 0..n {
-        let r = street_refusal(m, rows, i);
+        let r = street_refusal(m, &bits, rows, i);
         if r != 0 {
             return r;
         }

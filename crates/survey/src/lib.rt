@@ -4,6 +4,7 @@ ghost use lib.ListN.{replicate};
 ghost use Rattle.survey.specs.Refusals.{mostStreets, mostSites, topScore};
 
 pub mod check;
+mod quick;
 pub mod rows;
 
 // A survey as a program holds it: the sizes and the kind of plan, then the score buffer and the row buffer, of which the first m numbers

@@ -3,7 +3,7 @@
 use mathlib.Core.Path.{_≡_, refl, sym, _∙_}
 use mathlib.Core.Bool.{Bool}
 use mathlib.Core.Logic.{_≢_}
-use mathlib.Core.List.{List}
+use mathlib.Core.List.{List, [], _∷_}
 use Prim.Native.Nat.{ℕ, _+_, _≤_, _<_}
 use native.Mathlib.Nat.{le-antisymm}
 use native.Mathlib.Omega.{arith}
@@ -130,3 +130,30 @@ module _ {D E : List ℕ} {s q : ℕ} {sites streets nexts : List ℕ} {p : ℕ}
 
       stands : at E s ≡ y
       stands = h .upto s (omega arith) ∙ sym (queue .home)
+
+-- a later street that stands at b changes sites with s: a queue of two places
+pub swapped : {D : List ℕ} {s t b : ℕ} → s < length D → Later D s t b → b ≢ at D s
+    → Turned D (set (set D t (at D s)) s b) s 1 (at D s ∷ b ∷ []) (0 ∷ t ∷ []) (0 ∷ 0 ∷ [])
+swapped {D} {s} {t} {b} l later other = turning-done queue (turning-step queue (turning-start D s 1 sites streets nexts queue) differ (omega arith) (omega arith)) refl l
+  where
+    sites : List ℕ
+    sites = at D s ∷ b ∷ []
+
+    streets : List ℕ
+    streets = 0 ∷ t ∷ []
+
+    nexts : List ℕ
+    nexts = 0 ∷ 0 ∷ []
+
+    differ : Differ 2 sites
+    differ i j m n e =
+        let a : i ≡ 0 = omega arith in
+        let c : j ≡ 1 = omega arith in
+        other (sym (rw (a, c) at e))
+
+    queue : Queue D s 2 sites streets nexts
+    queue = record {
+      home = refl;
+      later = λ j m o. let e : j ≡ 1 = omega arith in rw e later;
+      nearer = λ j m o. let e : j ≡ 1 = omega arith in rw e (omega arith);
+    }

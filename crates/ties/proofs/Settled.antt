@@ -1,27 +1,34 @@
--- Laws of the pass over the streets: a street that can go to no lower site is settled, and so is one that a turn has put on the lowest site of
--- its queue; once all streets are settled the division is the best one.
+-- Laws of the pass over the streets: a street that stands on the lowest site that it may go to is settled, and so is one that a turn has put on
+-- the lowest site of its queue; once all streets are settled the division is the best one.
 -- Assumes nothing.
 use mathlib.Core.Path.{_≡_, refl, sym, ap, _∙_}
-use mathlib.Core.Bool.{Bool, true, true≢false}
-use mathlib.Core.List.{List}
-use Prim.Native.Nat.{ℕ, _+_, _<_}
-use native.Mathlib.Numerals.{add-one}
+use mathlib.Core.Bool.{Bool, true, false, _||_, or-true, true≢false}
+use mathlib.Core.Logic.{_≢_, _⊎_, inl, inr, ⊎-elim, by-cases}
+use mathlib.Core.List.{List, [], _∷_}
+use Prim.Native.Nat.{ℕ, _+_, _≤_, _<_}
+use native.Mathlib.Numerals.{add-one, lt-of-le-of-ne}
+use native.Mathlib.Decide.{ℕ-discrete}
 use native.Mathlib.Omega.{arith}
-use lib.ListN.{length}
+use lib.Dec.{ltb, eqb}
+use lib.ListN.{length, set}
+use borrow.Author.Tests.{ltb-true, ltb-false, eqb-true, eq-eqb}
 use Rattle.counting.specs.Lists.{at}
 use Rattle.division.specs.Shares.{share, InShares, divisionTotal}
 use Rattle.division.specs.Divide.{divide}
 use Rattle.division.specs.Town.{tail, Town}
 use Rattle.division.proofs.Counts.{by-order}
 use Rattle.division.proofs.Dual.{Priced, Tight, Cut, tight, priced-same}
-use Rattle.division.proofs.Ties.{Step, first-start, first-step, first-best}
+use Rattle.division.proofs.Ties.{Agree, first-start, first-step, first-best}
 use Rattle.division.proofs.Towns.{share-tail, sited}
-use Rattle.ties.specs.Queue.{Scene, flag, Grown}
+use Rattle.ties.specs.Queue.{Scene, flag, Later, Grown}
+use Rattle.ties.specs.Limits.{Leaver, Limits, Raised}
 use Rattle.ties.specs.Home.{Lowest, Turned}
 use Rattle.ties.specs.Tights.{Listed, Rowed}
-use Rattle.ties.specs.Standing.{Prices, Loose, Standing}
+use Rattle.ties.specs.Standing.{Prices, Aim, Standing}
 use Rattle.ties.proofs.Growth.{cut-of}
 use Rattle.ties.proofs.Listing.{row-back}
+use Rattle.ties.proofs.Homeward.{swapped}
+use Rattle.ties.proofs.Limiting.{limits-fewer, limits-move, limits-home}
 
 -- a division in the shares of a town has its sites below the width
 pub scene-of : {values shares : List ℕ} (prices D : List ℕ) → Town values shares (length D) → Prices prices (length shares) → InShares D (tail shares)
@@ -57,59 +64,135 @@ module _ {v : ℕ → ℕ → ℕ} {d : ℕ → ℕ} {c D : List ℕ} {s : ℕ} 
       let all : s ≡ length D = e ∙ sym l in
       first-best v d c D (h .within) (h .priced) (rw all at (h .first)) ∙ ap (λ (k : ℕ). divide v k c) l
 
-  module _ {w k : ℕ} {sites streets nexts : List ℕ} {marks : List Bool} {p : ℕ} {E : List ℕ} (l : s < length D)
-      (g : Grown v d D s w k sites streets nexts marks k) (lowest : Lowest v d D s k sites p) (turned : Turned D E s p sites streets nexts) where
-    -- a turn leaves the division in the shares
-    same : InShares E c
-    same z = turned .counts z ∙ h .within z
-
-    -- and leaves its total
-    total : divisionTotal v E ≡ divisionTotal v D
-    total = turned .total v d (λ j m. g .linked j (omega (arith, lowest .within))) (lowest .tight)
-
-    -- what is tight after it was tight before
+  module _ (E : List ℕ) (long : length E ≡ length D) (same : InShares E c) (total : divisionTotal v E ≡ divisionTotal v D) where
+    -- what is tight after a move that leaves the total was tight before
     tight-back : (t y : ℕ) → t < length D → Tight v d E t y → Tight v d D t y
     tight-back t y m e = omega (arith, tight v d c D (h .within) (h .priced) E same total t m)
 
     -- so the rows of the tight streets hold still
-    pub listed-turned : (shares : List ℕ) (m : ℕ) (tights ends : List ℕ) → Listed v d D shares m tights ends → Listed v d E shares m tights ends
-    listed-turned shares m tights ends rows y small held = row-back tights ends y (turned .long) (λ t. tight-back t y) (rows y small held)
+    listed-still : (shares : List ℕ) (m : ℕ) (tights ends : List ℕ) → Listed v d D shares m tights ends → Listed v d E shares m tights ends
+    listed-still shares m tights ends rows y small held = row-back tights ends y long (λ t. tight-back t y) (rows y small held)
 
-    -- a street that a turn has put on the lowest site of its queue is settled
-    pub standing-turned : Standing v d c E (s + 1)
-    standing-turned =
+    -- a street that may leave its site could leave the one before
+    leaver-back : (shares : List ℕ) → ((t : ℕ) → t < length D → 0 < at shares (at E t)) → (t : ℕ) → t < length D → Leaver v d shares E t → Leaver v d shares D t
+    leaver-back shares held t l (y, some, away, e) =
+        by-cases (ℕ-discrete y (at D t)) (λ q. (at E t, held t l, λ z. away (q ∙ sym z), tight v d c D (h .within) (h .priced) E same total t l))
+        (λ q. (y, some, q, tight-back t y l e))
+
+    -- so the limits hold
+    limits-still : (shares : List ℕ) → ((t : ℕ) → t < length D → 0 < at shares (at E t)) → (limits : List ℕ) → Limits (Leaver v d shares D) s E limits
+        → Limits (Leaver v d shares E) s E limits
+    limits-still shares held limits k = limits-fewer k (λ t l. leaver-back shares held t (rw long at l))
+
+    -- and a street that a move has put on the lowest site within a cut is settled
+    standing-step : (R : ℕ → Bool) → Cut v d c D s R → Agree D E s → ((b : ℕ) → R b ≡ true → 0 < share c b → Tight v d D s b → at E s ≤ b) → s < length D
+        → Standing v d c E (s + 1)
+    standing-step R cut before low l =
         record {
           within = same;
           priced = priced-same v d c D (h .within) (h .priced) E same total;
-          first = rw (add-one s) (first-step v d c D (h .within) (h .priced) s l (flag marks) (cut-of c (h .priced) g) E step (h .first));
-        }
-      where
-        step : Step v d c D s (flag marks) E
-        step = record {
-          total = total;
-          before = turned .before;
-          low = λ b y held t. let (j, m, e) = g .placed .only b y in omega (arith, turned .moved, lowest .low j m (rw e t), e);
+          first = rw (add-one s) (first-step v d c D (h .within) (h .priced) s l R cut E (record { total = total; before = before; low = low }) (h .first));
         }
 
--- a street that is tight for no lower site that has a share is settled
-pub standing-still : {v : ℕ → ℕ → ℕ} {d : ℕ → ℕ} (shares D : List ℕ) (s : ℕ) → at shares 0 ≡ 0 → s < length D → Loose v d shares D s (at D s)
-    → Standing v d (tail shares) D s → Standing v d (tail shares) D (s + 1)
-standing-still {v} {d} shares D s nobody l loose h =
-    record {
-      within = h .within;
-      priced = h .priced;
-      first = rw (add-one s) (first-step v d (tail shares) D (h .within) (h .priced) s l (λ a. true) all D step (h .first));
-    }
+  -- the street s goes to the lowest site of its queue
+  module _ {w k : ℕ} {sites streets nexts : List ℕ} {marks : List Bool} {p : ℕ} {E : List ℕ} (l : s < length D)
+      (g : Grown v d D s w k sites streets nexts marks k) (lowest : Lowest v d D s k sites p) (turned : Turned D E s p sites streets nexts) where
+    same-turned : InShares E c
+    same-turned z = turned .counts z ∙ h .within z
+
+    total-turned : divisionTotal v E ≡ divisionTotal v D
+    total-turned = turned .total v d (λ j m. g .linked j (omega (arith, lowest .within))) (lowest .tight)
+
+    pub listed-turned : (shares : List ℕ) (m : ℕ) (tights ends : List ℕ) → Listed v d D shares m tights ends → Listed v d E shares m tights ends
+    listed-turned = listed-still E (turned .long) same-turned total-turned
+
+    pub limits-turned : (shares limits : List ℕ) → c ≡ tail shares → at shares 0 ≡ 0 → Limits (Leaver v d shares D) s E limits
+        → Limits (Leaver v d shares E) s E limits
+    limits-turned shares limits q nobody =
+        limits-still E (turned .long) same-turned total-turned shares
+        (λ t m. sited shares E nobody (rw q at same-turned) t (rw (turned .long) m) .1) limits
+
+    pub standing-turned : Standing v d c E (s + 1)
+    standing-turned =
+        standing-step E (turned .long) same-turned total-turned (flag marks) (cut-of c (h .priced) g) (turned .before)
+        (λ b y held t. let (j, m, e) = g .placed .only b y in omega (arith, turned .moved, lowest .low j m (rw e t), e)) l
+
+-- sites that can be left, and the own site of the street s
+reached : List ℕ → List ℕ → ℕ → ℕ → Bool
+reached limits D s x = ltb (s + 1) (at limits x) || eqb x (at D s)
+
+reached-home : (limits D : List ℕ) (s : ℕ) → reached limits D s (at D s) ≡ true
+unfolding reached
+reached-home limits D s = rw (eq-eqb (at D s) (at D s) refl) (or-true (ltb (s + 1) (at limits (at D s))))
+
+reached-some : (limits D : List ℕ) (s x : ℕ) → reached limits D s x ≡ true → (s + 1 < at limits x) ⊎ (x ≡ at D s)
+unfolding reached
+reached-some limits D s x e = go (ltb (s + 1) (at limits x)) (eqb x (at D s)) refl refl e
   where
-    all : Cut v d (tail shares) D s (λ a. true)
-    all = record { home = refl; shut = λ t a m o. absurd (true≢false o) }
+    go : (a b : Bool) → a ≡ ltb (s + 1) (at limits x) → b ≡ eqb x (at D s) → a || b ≡ true → (s + 1 < at limits x) ⊎ (x ≡ at D s)
+    go true b p q r = inl (ltb-true _ _ (sym p))
+    go false b p q r = inr (eqb-true _ _ (sym q ∙ r))
 
-    below : (b : ℕ) → 0 < share (tail shares) b → Tight v d D s b → b < at D s → ⊥
-    below b held t m = loose b m (omega (arith, share-tail shares nobody b)) t
+reached-none : (limits D : List ℕ) (s x : ℕ) → reached limits D s x ≡ false → at limits x ≤ s + 1
+unfolding reached
+reached-none limits D s x e = go (ltb (s + 1) (at limits x)) refl e
+  where
+    go : (a : Bool) → a ≡ ltb (s + 1) (at limits x) → a || eqb x (at D s) ≡ false → at limits x ≤ s + 1
+    go true p r = absurd (true≢false r)
+    go false p r = ltb-false _ _ (sym p)
 
-    step : Step v d (tail shares) D s (λ a. true) D
-    step = record {
-      total = refl;
-      before = λ t m. refl;
-      low = λ b y held t. by-order b (at D s) (λ m. absurd (below b held t m)) (λ e. omega arith) (λ m. omega arith);
-    }
+-- the street s goes to the lowest site that it may go to and that can be left
+module _ {v : ℕ → ℕ → ℕ} {d : ℕ → ℕ} {shares limits D : List ℕ} {s b : ℕ} (h : Standing v d (tail shares) D s) (nobody : at shares 0 ≡ 0) (l : s < length D)
+    (k : Limits (Leaver v d shares D) s D limits) (aim : Aim v d shares limits D s b) where
+  standing-aimed : (E : List ℕ) → length E ≡ length D → InShares E (tail shares) → divisionTotal v E ≡ divisionTotal v D → Agree D E s → at E s ≡ b
+      → Standing v d (tail shares) E (s + 1)
+  standing-aimed E long same total before moved = standing-step h E long same total (reached limits D s) cut before low l
+    where
+      kept : (t : ℕ) → s < t → t < length D → reached limits D s (at D t) ≡ false → (a : ℕ) → 0 < share (tail shares) a → reached limits D s a ≡ true
+          → Tight v d D t a → ⊥
+      kept t m n out a held inside e =
+          let away : a ≢ at D t = λ q. true≢false (sym inside ∙ rw q out) in
+          let leaver : Leaver v d shares D t = (a, omega (arith, share-tail shares nobody a), away, e) in
+          omega (arith, k .limit t m n leaver, reached-none limits D s (at D t) out)
+
+      cut : Cut v d (tail shares) D s (reached limits D s)
+      cut = record {
+        home = reached-home limits D s;
+        shut = λ t m n out a held inside. lt-of-le-of-ne (h .priced t n a held) (kept t m n out a held inside);
+      }
+
+      below : (a : ℕ) → reached limits D s a ≡ true → 0 < share (tail shares) a → Tight v d D s a → a < b → ⊥
+      below a inside held t m =
+          ⊎-elim (λ o. omega (arith, aim .loose a m (omega (arith, share-tail shares nobody a)) t)) (λ q. omega (arith, aim .within)) (reached-some limits D s a inside)
+
+      low : (a : ℕ) → reached limits D s a ≡ true → 0 < share (tail shares) a → Tight v d D s a → at E s ≤ a
+      low a inside held t = by-order a b (λ m. absurd (below a inside held t m)) (λ e. omega arith) (λ m. omega arith)
+
+  -- it stands there
+  pub standing-still : b ≡ at D s → Standing v d (tail shares) D (s + 1)
+  standing-still e = standing-aimed D refl (h .within) refl (λ t m. refl) (sym e)
+
+  -- it changes sites with a later street that stands there
+  module _ {t : ℕ} (other : b ≢ at D s) (later : Later D s t b) (back : Tight v d D t (at D s)) where
+    abbrev pub swap : List ℕ
+    swap = set (set D t (at D s)) s b
+
+    turned : Turned D swap s 1 (at D s ∷ b ∷ []) (0 ∷ t ∷ []) (0 ∷ 0 ∷ [])
+    turned = swapped l later other
+
+    same : InShares swap (tail shares)
+    same z = turned .counts z ∙ h .within z
+
+    total : divisionTotal v swap ≡ divisionTotal v D
+    total = turned .total v d (λ j m o. let e : j ≡ 1 = omega arith in rw e back) (aim .tight)
+
+    pub listed-swapped : (m : ℕ) (tights ends : List ℕ) → Listed v d D shares m tights ends → Listed v d swap shares m tights ends
+    listed-swapped = listed-still h swap (turned .long) same total shares
+
+    pub standing-swapped : Standing v d (tail shares) swap (s + 1)
+    standing-swapped = standing-aimed swap (turned .long) same total (turned .before) (turned .moved)
+
+    pub limits-swapped : (raised : List ℕ) → Raised limits raised (at D s) (t + 1) → Limits (Leaver v d shares swap) s swap raised
+    limits-swapped raised r =
+        limits-still h swap (turned .long) same total shares (λ u m. sited shares swap nobody same u (rw (turned .long) m) .1) raised
+        (limits-home (limits-move k raised t (at D s) (later .street) r) b)

@@ -1,4 +1,5 @@
 pub mod Queue
+pub mod Limits
 pub mod Home
 pub mod Standing
 pub mod Tights

@@ -1,10 +1,13 @@
 // The way home: the place of the queue that has the lowest site for a street, and the turn that puts the street there.
+use crate::limits;
 use crate::queue;
 ghost use mathlib.Core.Path.{_≡_};
 ghost use Prim.Native.Nat.{ℕ, _+_, _≤_, _<_};
+ghost use mathlib.Core.List.{List};
 ghost use lib.ListN.{length};
 ghost use Rattle.counting.specs.Lists.{at, cell};
 ghost use Rattle.ties.specs.Queue.{Scene, Differ, Queue};
+ghost use Rattle.ties.specs.Limits.{Leaver, Limits};
 ghost use Rattle.ties.specs.Home.{Lowest, Turned};
 
 // The better of the lowest place so far and the place i, whose site must be lower, and tight for s.
@@ -55,7 +58,7 @@ pub fn lowest(
     best
 }
 
-// The street s goes to the site of a place, and each street on the way home from there goes on to the next place's site.
+// The street s goes to the site of a place, and each street on the way home from there goes on to the next place's site, whose limit is raised.
 pub fn turn(
     division: &mut [u8],
     s: usize,
@@ -63,15 +66,23 @@ pub fn turn(
     streets: &[u16],
     nexts: &[u8],
     sites: &[u8],
+    limits: &mut [u16],
 )
     requires { ⌜ (s < length (now division)) × (place < length (now streets)) × (place < length (now nexts)) × (place < length (now sites)) ⌝ }
     requires { ⌜ Differ (place + 1) (now sites) × Queue (now division) s (place + 1) (now sites) (now streets) (now nexts) ⌝ }
+    requires { ⌜ (length (now division) ≤ 400) × ((j : ℕ) → j ≤ place → at (now sites) j < length (now limits)) ⌝ }
     ensures { λ _. ⌜ Turned (now (division .entry)) (now (division .exit)) s place (now (sites .entry)) (now (streets .entry)) (now (nexts .entry)) ⌝ }
+    ensures { λ _. ⌜ ((v : ℕ → ℕ → ℕ) (d : ℕ → ℕ) (shares : List ℕ)
+        → Limits (Leaver v d shares (now (division .entry))) s (now (division .entry)) (now (limits .entry))
+        → Limits (Leaver v d shares (now (division .entry))) s (now (division .exit)) (now (limits .exit))) ⌝ }
 {
     let mut p = place;
     while 0 < p {
         let next = nexts[p] as usize;
-        division[streets[p] as usize] = sites[next];
+        let t = streets[p];
+        let x = sites[next];
+        division[t as usize] = x;
+        limits::raise(limits, x as usize, t + 1);
         p = next;
     }
     division[s] = sites[place];

@@ -1,7 +1,7 @@
 // The tie pass: street by street, a best division becomes the one that is first in dictionary order.
 ghost use mathlib.Core.Path.{_≡_};
-ghost use mathlib.Core.Bool.{false};
-ghost use Prim.Native.Nat.{_+_, _<_};
+ghost use mathlib.Core.Bool.{true, false};
+ghost use Prim.Native.Nat.{ℕ, _+_, _≤_, _<_};
 ghost use lib.ListN.{length};
 ghost use Rattle.counting.specs.Lists.{at, cell};
 ghost use Rattle.division.specs.Shares.{InShares};
@@ -9,45 +9,69 @@ ghost use Rattle.division.specs.Divide.{divide};
 ghost use Rattle.division.specs.Town.{tail, Town};
 ghost use Rattle.division.proofs.Dual.{Priced, Tight};
 ghost use Rattle.ties.specs.Queue.{Scene, Room};
-ghost use Rattle.ties.specs.Standing.{Loose, Prices, Standing};
+ghost use Rattle.ties.specs.Limits.{Leaver, Limits, LastAt};
+ghost use Rattle.ties.specs.Standing.{Aim, Prices, Standing};
 ghost use Rattle.ties.specs.Tights.{Listed, Rows};
 
 mod home;
+mod limits;
 mod queue;
 mod tights;
 
-// Whether the street s may go to a site: where it may not, the site has no share, or s is not tight for it.
-fn may(values: &[u32], shares: &[u16], prices: &[u32], division: &[u8], s: usize, b: usize) -> bool
+// Whether the street s may go to the site b, and b can be left. The limit of b is lowered on the way.
+fn reach(
+    values: &[u32],
+    shares: &[u16],
+    prices: &[u32],
+    division: &[u8],
+    s: usize,
+    b: usize,
+    limits: &mut [u16],
+) -> bool
     requires { ⌜ Scene (now values) (now prices) (now division) (length (now shares)) ⌝ }
-    requires { ⌜ (s < length (now division)) × (b < length (now shares)) ⌝ }
-    ensures { λ r. ⌜ (r ≡ false → 0 < at (now (shares .entry)) b
-        → Tight (cell (now (values .entry)) (length (now (shares .entry)))) (at (now (prices .entry))) (now (division .entry)) s b → ⊥) ⌝ }
+    requires { ⌜ (s < length (now division)) × (b < length (now shares)) × (length (now shares) ≤ length (now limits)) ⌝ }
+    requires { ⌜ Limits (Leaver (cell (now values) (length (now shares))) (at (now prices)) (now shares) (now division)) s (now division) (now limits) ⌝ }
+    ensures yes { λ r. ⌜ (r ≡ true → Tight (cell (now (values .entry)) (length (now (shares .entry)))) (at (now (prices .entry))) (now (division .entry)) s b
+        × LastAt (now (division .entry)) s (now (limits .exit)) b) ⌝ }
+    ensures no { λ r. ⌜ (r ≡ false → 0 < at (now (shares .entry)) b
+        → Tight (cell (now (values .entry)) (length (now (shares .entry)))) (at (now (prices .entry))) (now (division .entry)) s b
+        → at (now (limits .exit)) b ≤ s + 1) ⌝ }
+    ensures limits { λ _. ⌜ Limits (Leaver (cell (now (values .entry)) (length (now (shares .entry)))) (at (now (prices .entry))) (now (shares .entry)) (now (division .entry)))
+        s (now (division .entry)) (now (limits .exit)) × ((x : ℕ) → at (now (limits .exit)) x ≤ at (now (limits .entry)) x) ⌝ }
 {
-    if shares[b] == 0 {
+    if !queue::may(values, shares, prices, division, s, b) {
         return false;
     }
-    queue::tight(values, prices, shares.len(), division, s, b)
+    limits::lower(values, shares, prices, division, s, b, limits)
 }
 
-// Whether the street s may go to a lower site: where it may not, s is settled as it stands.
-fn movable(values: &[u32], shares: &[u16], prices: &[u32], division: &[u8], s: usize) -> bool
+// The lowest site that the street s may go to and that can be left, its own where there is no lower one.
+fn aim(
+    values: &[u32],
+    shares: &[u16],
+    prices: &[u32],
+    division: &[u8],
+    s: usize,
+    limits: &mut [u16],
+) -> usize
     requires { ⌜ Scene (now values) (now prices) (now division) (length (now shares)) ⌝ }
-    requires { ⌜ s < length (now division) ⌝ }
-    ensures { λ r. ⌜ (r ≡ false
-        → Loose (cell (now (values .entry)) (length (now (shares .entry)))) (at (now (prices .entry))) (now (shares .entry)) (now (division .entry)) s
-        (at (now (division .entry)) s)) ⌝ }
+    requires { ⌜ (s < length (now division)) × (length (now shares) ≤ length (now limits)) ⌝ }
+    requires { ⌜ Limits (Leaver (cell (now values) (length (now shares))) (at (now prices)) (now shares) (now division)) s (now division) (now limits) ⌝ }
+    ensures { λ r. ⌜ Aim (cell (now (values .entry)) (length (now (shares .entry)))) (at (now (prices .entry))) (now (shares .entry)) (now (limits .exit)) (now (division .entry)) s r ⌝ }
+    ensures { λ _. ⌜ Limits (Leaver (cell (now (values .entry)) (length (now (shares .entry)))) (at (now (prices .entry))) (now (shares .entry)) (now (division .entry)))
+        s (now (division .entry)) (now (limits .exit)) ⌝ }
 {
     let a = division[s] as usize;
     for b in 0..a {
-        if may(values, shares, prices, division, s, b) {
-            return true;
+        if reach(values, shares, prices, division, s, b, limits) {
+            return b;
         }
     }
-    false
+    a
 }
 
-// The street s goes to the lowest site that it can have, and later streets make way.
-fn settle_street(
+// The street s goes to the lowest site that it can have, and later streets make way along a queue of sites.
+fn settle_far(
     values: &[u32],
     shares: &[u16],
     prices: &[u32],
@@ -59,6 +83,7 @@ fn settle_street(
     nexts: &mut [u8],
     sites: &mut [u8],
     marks: &mut [bool],
+    limits: &mut [u16],
 )
     requires { ⌜ Town (now values) (now shares) (length (now division)) ⌝ }
     requires { ⌜ Prices (now prices) (length (now shares)) ⌝ }
@@ -67,14 +92,15 @@ fn settle_street(
     requires { ⌜ Rows (length (now shares)) (length (now division)) (now tights) (now ends)
         × Listed (cell (now values) (length (now shares))) (at (now prices)) (now division) (now shares) (length (now shares)) (now tights) (now ends) ⌝ }
     requires { ⌜ Standing (cell (now values) (length (now shares))) (at (now prices)) (tail (now shares)) (now division) s ⌝ }
+    requires { ⌜ (length (now shares) ≤ length (now limits))
+        × Limits (Leaver (cell (now values) (length (now shares))) (at (now prices)) (now shares) (now division)) s (now division) (now limits) ⌝ }
     ensures { λ _. ⌜ Standing (cell (now (values .entry)) (length (now (shares .entry)))) (at (now (prices .entry))) (tail (now (shares .entry)))
         (now (division .exit)) (s + 1) ⌝ }
     ensures { λ _. ⌜ Listed (cell (now (values .entry)) (length (now (shares .entry)))) (at (now (prices .entry))) (now (division .exit)) (now (shares .entry))
         (length (now (shares .entry))) (now (tights .entry)) (now (ends .entry)) ⌝ }
+    ensures { λ _. ⌜ Limits (Leaver (cell (now (values .entry)) (length (now (shares .entry)))) (at (now (prices .entry))) (now (shares .entry)) (now (division .exit)))
+        s (now (division .exit)) (now (limits .exit)) ⌝ }
 {
-    if !movable(values, shares, prices, division, s) {
-        return;
-    }
     let w = shares.len();
     let count = queue::grow(
         values,
@@ -90,7 +116,67 @@ fn settle_street(
         marks,
     );
     let place = home::lowest(values, prices, w, division, s, sites, count);
-    home::turn(division, s, place, streets, nexts, sites);
+    home::turn(division, s, place, streets, nexts, sites, limits);
+}
+
+// The street s goes to the lowest site that it can have, and later streets make way: mostly one that stands there changes sites with it.
+fn settle_street(
+    values: &[u32],
+    shares: &[u16],
+    prices: &[u32],
+    division: &mut [u8],
+    s: usize,
+    tights: &[u16],
+    ends: &[u16],
+    streets: &mut [u16],
+    nexts: &mut [u8],
+    sites: &mut [u8],
+    marks: &mut [bool],
+    limits: &mut [u16],
+)
+    requires { ⌜ Town (now values) (now shares) (length (now division)) ⌝ }
+    requires { ⌜ Prices (now prices) (length (now shares)) ⌝ }
+    requires { ⌜ Room (length (now shares)) (now streets) (now nexts) (now sites) (now marks) ⌝ }
+    requires { ⌜ s < length (now division) ⌝ }
+    requires { ⌜ Rows (length (now shares)) (length (now division)) (now tights) (now ends)
+        × Listed (cell (now values) (length (now shares))) (at (now prices)) (now division) (now shares) (length (now shares)) (now tights) (now ends) ⌝ }
+    requires { ⌜ Standing (cell (now values) (length (now shares))) (at (now prices)) (tail (now shares)) (now division) s ⌝ }
+    requires { ⌜ (length (now shares) ≤ length (now limits))
+        × Limits (Leaver (cell (now values) (length (now shares))) (at (now prices)) (now shares) (now division)) s (now division) (now limits) ⌝ }
+    ensures { λ _. ⌜ Standing (cell (now (values .entry)) (length (now (shares .entry)))) (at (now (prices .entry))) (tail (now (shares .entry)))
+        (now (division .exit)) (s + 1) ⌝ }
+    ensures { λ _. ⌜ Listed (cell (now (values .entry)) (length (now (shares .entry)))) (at (now (prices .entry))) (now (division .exit)) (now (shares .entry))
+        (length (now (shares .entry))) (now (tights .entry)) (now (ends .entry)) ⌝ }
+    ensures { λ _. ⌜ Limits (Leaver (cell (now (values .entry)) (length (now (shares .entry)))) (at (now (prices .entry))) (now (shares .entry)) (now (division .exit)))
+        s (now (division .exit)) (now (limits .exit)) ⌝ }
+{
+    let a = division[s];
+    let b = aim(values, shares, prices, division, s, limits);
+    if b == a as usize {
+        return;
+    }
+    let limit = limits[b];
+    let t = limit as usize - 1;
+    if queue::tight(values, prices, shares.len(), division, t, a as usize) {
+        division[t] = a;
+        division[s] = b as u8;
+        limits::raise(limits, a as usize, limit);
+        return;
+    }
+    settle_far(
+        values,
+        shares,
+        prices,
+        division,
+        s,
+        tights,
+        ends,
+        streets,
+        nexts,
+        sites,
+        marks,
+        limits,
+    );
 }
 
 // Every street is settled, in order.
@@ -105,6 +191,7 @@ fn settle_streets(
     nexts: &mut [u8],
     sites: &mut [u8],
     marks: &mut [bool],
+    limits: &mut [u16],
 )
     requires { ⌜ Town (now values) (now shares) (length (now division)) ⌝ }
     requires { ⌜ Prices (now prices) (length (now shares)) ⌝ }
@@ -112,6 +199,8 @@ fn settle_streets(
     requires { ⌜ Rows (length (now shares)) (length (now division)) (now tights) (now ends)
         × Listed (cell (now values) (length (now shares))) (at (now prices)) (now division) (now shares) (length (now shares)) (now tights) (now ends) ⌝ }
     requires { ⌜ Standing (cell (now values) (length (now shares))) (at (now prices)) (tail (now shares)) (now division) 0 ⌝ }
+    requires { ⌜ (length (now shares) ≤ length (now limits))
+        × Limits (Leaver (cell (now values) (length (now shares))) (at (now prices)) (now shares) (now division)) 0 (now division) (now limits) ⌝ }
     ensures { λ _. ⌜ now (division .exit)
         ≡ divide (cell (now (values .entry)) (length (now (shares .entry)))) (length (now (division .entry))) (tail (now (shares .entry))) ⌝ }
 {
@@ -128,6 +217,7 @@ fn settle_streets(
             nexts,
             sites,
             marks,
+            limits,
         );
     }
 }
@@ -153,6 +243,8 @@ pub fn settle(
 {
     let mut tights = [0u16; 26065];
     let mut ends = [0u16; 65];
+    let mut limits = [0u16; 65];
+    limits::fill(&mut limits, division.len() as u16);
     tights::list_sites(values, shares, prices, division, &mut tights, &mut ends);
     settle_streets(
         values,
@@ -165,5 +257,6 @@ pub fn settle(
         nexts,
         sites,
         marks,
+        &mut limits,
     );
 }

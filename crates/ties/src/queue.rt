@@ -20,6 +20,26 @@ pub fn tight(values: &[u32], prices: &[u32], w: usize, division: &[u8], t: usize
     prices[x] + values[row + y] == prices[y] + values[row + x]
 }
 
+// Whether a street may go to a site: the site has a share, and the street is tight for it.
+pub fn may(
+    values: &[u32],
+    shares: &[u16],
+    prices: &[u32],
+    division: &[u8],
+    t: usize,
+    y: usize,
+) -> bool
+    requires { ⌜ Scene (now values) (now prices) (now division) (length (now shares)) ⌝ }
+    requires { ⌜ (t < length (now division)) × (y < length (now shares)) ⌝ }
+    ensures { λ r. ⌜ Tells r ((0 < at (now (shares .entry)) y)
+        × Tight (cell (now (values .entry)) (length (now (shares .entry)))) (at (now (prices .entry))) (now (division .entry)) t y) ⌝ }
+{
+    if shares[y] == 0 {
+        return false;
+    }
+    tight(values, prices, shares.len(), division, t, y)
+}
+
 // A street is looked at from the place i: where its site is not in the queue yet, and it is tight for the site of i, its site joins.
 fn join(
     values: &[u32],

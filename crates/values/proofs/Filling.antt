@@ -18,6 +18,7 @@ use Rattle.survey.proofs.Laws.{ranked-stop, ranked-more, ranked-all, row-part}
 use Rattle.values.specs.Table.{valueIn, Blank, Valued}
 use Rattle.counting.proofs.Parts.{part, put, part-length, part-blank, put-length, put-before, put-in, put-behind}
 use Rattle.survey.proofs.Places.{place-none, place-new, place-old, score-none, score-next}
+use Rattle.survey.proofs.BySite.{ranked, row-length}
 
 -- ---- one street
 -- the values up to m are the scores that a list gives
@@ -132,14 +133,12 @@ module _ {v : ℕ → ℕ → ℕ} {n m s : ℕ} {values : List ℕ} (l : s < n)
 
 -- what the call for one street asks and what it gives
 module _ {n m s : ℕ} {scores rows values : List ℕ} (ok : Accepted n m scores rows) (l : s < n) (f : Filled (value m scores rows) n m s values) where
-  row-length : length (rowPart m rows s) ≡ m
-  row-length = omega (arith, part-length (s * m) (s * m + m) rows (omega (arith, row-within n m s l, ok .rows-fit)))
-
-  pub street-sound : SoundRow (length (rowPart m rows s)) (rowPart m rows s)
-  street-sound = rw (row-length, row-part m rows s) (ok .sound-rows s l)
+  -- the row, as it is lent, has m bytes
+  long : length (rowPart m rows s) ≡ m
+  long = row-length (ranked n m scores rows ok) l
 
   pub street-sized : (length scores ≡ length (rowPart m rows s)) × (length (valuesPart m values s) ≡ length (rowPart m rows s) + 1)
-  street-sized = omega (arith, ok .scores-fit, row-length, values-length l f)
+  street-sized = omega (arith, ok .scores-fit, long, values-length l f)
 
   pub street-blank : (a : ℕ) → at (valuesPart m values s) a ≡ 0
   street-blank = part-blank (s * (m + 1)) (s * (m + 1) + (m + 1)) values (in-table l f) (f .none)
@@ -147,4 +146,4 @@ module _ {n m s : ℕ} {scores rows values : List ℕ} (ok : Accepted n m scores
   pub street-filled : (ys : List ℕ) → length ys ≡ length (valuesPart m values s)
       → ((a : ℕ) → a ≤ length (rowPart m rows s) → at ys a ≡ scoreOf scores (rowPart m rows s) a)
       → Filled (value m scores rows) n m (s + 1) (putValues m values s ys)
-  street-filled ys e h = filled-more l f ys (e ∙ values-length l f) (λ a u. h a (omega (arith, row-length)) ∙ ap (λ (row : List ℕ). scoreOf scores row a) (row-part m rows s))
+  street-filled ys e h = filled-more l f ys (e ∙ values-length l f) (λ a u. h a (omega (arith, long)) ∙ ap (λ (row : List ℕ). scoreOf scores row a) (row-part m rows s))

@@ -10,7 +10,7 @@ use mathlib.Core.List.{List}
 use Rattle.counting.proofs.Refusals.{unless-none, unless-is}
 use Rattle.survey.proofs.Laws.{row-part}
 use Rattle.balanced_rounds.specs.Lines.{picked}
-use Rattle.balanced_rounds.proofs.Rounding.{line-ends, lines-small, line-of}
+use Rattle.balanced_rounds.proofs.Rounding.{line-ends, lines-small, line-of, line-falls}
 use Rattle.balanced_rounds.proofs.worth_of.Statement.{statement}
 use Rattle.balanced_rounds.proofs.worth_of.Tie as tie
 
@@ -66,7 +66,7 @@ worth-requires : tie.Need-worth-requires
 worth-requires c κs =
     let a = c .before .before .before .before .before .before .before .args in
     let p = c .before .before .before .before .before .before .before .pre in
-    ((p .0 .0, line-of (length (a .division .now)) (a .m) (a .orders .now) (p .0 .1) (a .a) (p .1 .1) (a .division .now) refl (p .0 .0 .few-streets)), (p .1 .1, p .1 .2))
+    ((p .0 .0, line-of (length (a .division .now)) (a .m) (a .orders .now) (p .0 .1) (a .a) (p .1 .1) (a .division .now) refl (p .0 .0 .few-streets), line-falls (length (a .division .now)) (a .m) (a .orders .now) (p .0 .1) (a .a) (p .1 .1) (valueIn (a .values .now) (a .m)) (p .0 .2)), (p .1 .1, p .1 .2))
 
 returns-2 : tie.Need-returns-2
 returns-2 c =

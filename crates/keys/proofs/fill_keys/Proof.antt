@@ -4,13 +4,13 @@ use mathlib.Core.Path.{sym, _∙_}
 use Prim.Native.Nat.{_+_, _*_, _≤_, _-_}
 use native.Mathlib.Omega.{arith}
 use lib.ListN.{length}
-use Rattle.counting.proofs.Tables.{row-within}
-use Rattle.keys.proofs.Filling.{Filled, filled-none, filled-all, filled-more, street-sound, street-room, street-unkeyed}
+use Rattle.survey.proofs.BySite.{Filled, filled-all, row-ends, street-sound, street-room}
+use Rattle.keys.proofs.Keyed.{keyAt, keys-none, keys-more, street-last}
 use Rattle.keys.proofs.fill_keys.Statement.{statement}
 use Rattle.keys.proofs.fill_keys.Tie as tie
 
 abbrev Inv-loop : tie.InvT-loop
-Inv-loop n m rows keys₀ s₀ keys s = (s ≤ n) × Filled n m rows keys s
+Inv-loop n m rows keys₀ s₀ keys s = (s ≤ n) × Filled (keyAt m) n m rows keys s
 
 abbrev μ-loop : tie.MeasureT-loop
 μ-loop n m rows keys₀ s₀ keys s = n - s
@@ -19,10 +19,7 @@ abbrev μ-loop : tie.MeasureT-loop
 ends : (c : tie.In-loop Inv-loop μ-loop) →
     let a = c .before .before .before .before .before .before .before .before .args in
     c .before .loop .s * a .m + a .m ≤ length (a .rows .now)
-ends c =
-    let a = c .before .before .before .before .before .before .before .before .args in
-    let ok = c .before .before .before .before .before .before .before .before .pre .0 in
-    omega (arith, row-within (a .n) (a .m) (c .before .loop .s) (omega arith), ok .rows-fit)
+ends c = row-ends (c .before .before .before .before .before .before .before .before .pre .0) (omega arith)
 
 add-fill-last : tie.Need-add-fill-last Inv-loop μ-loop
 add-fill-last c = search needs
@@ -34,7 +31,7 @@ fill-last-requires : tie.Need-fill-last-requires Inv-loop μ-loop
 fill-last-requires c κs = search needs
 
 loop-holds : tie.Need-loop-holds Inv-loop μ-loop
-loop-holds c = (search needs, filled-none _ _ _ _ _ (c .before .before .before .before .before .before .pre .1) (c .before .before .fill-last .ensures))
+loop-holds c = (search needs, keys-none _ _ _ _ _ (c .before .before .before .before .before .before .pre .1) (c .before .before .fill-last .ensures))
 
 mul-low : tie.Need-mul-low Inv-loop μ-loop
 mul-low c = omega (arith, ends c)
@@ -55,7 +52,7 @@ fill-street-requires : tie.Need-fill-street-requires Inv-loop μ-loop
 fill-street-requires c κs =
     let l = c .before .before .before .loop in
     let ok = c .before .before .before .before .before .before .before .before .before .before .pre .0 in
-    (street-sound ok (omega arith) (l .inv .1), (street-room ok (omega arith) (l .inv .1), street-unkeyed ok (omega arith) (l .inv .1)))
+    (street-sound ok (omega arith), (street-room ok (omega arith) (l .inv .1), street-last ok (omega arith) (l .inv .1)))
 
 add-s : tie.Need-add-s Inv-loop μ-loop
 add-s c = search needs
@@ -68,7 +65,7 @@ loop-again c =
     let ok = c .before .before .before .before .before .before .before .before .before .before .before .before .before .pre .0 in
     let l = c .before .before .before .before .before .before .loop in
     let call = c .before .before .fill-street in
-    (omega arith, filled-more ok (omega arith) (l .inv .1) (call .last .1 .1 .1 .0) (call .kept .1 .1 .1 .0) (call .ensures))
+    (omega arith, keys-more ok (omega arith) (l .inv .1) (call .last .1 .1 .1 .0) (call .kept .1 .1 .1 .0) (call .ensures))
 
 same-length : tie.Need-same-length Inv-loop μ-loop
 same-length c = c .before .loop .inv .1 .size ∙ sym (c .before .before .before .before .before .before .before .before .pre .1)

@@ -5,12 +5,13 @@ use Prim.Native.Nat.{_≤_, _<_, _-_, _+_, _*_}
 use native.Mathlib.Omega.{arith}
 use lib.ListN.{length}
 use Rattle.counting.specs.Lists.{at}
-use Rattle.keys.proofs.Filling.{Passed, passed-none, passed-room, passed-size, passed-more, passed-stop, passed-all}
+use Rattle.survey.proofs.BySite.{Passed, passed-none, passed-room, passed-size, passed-more, passed-stop, passed-all}
+use Rattle.keys.proofs.Keyed.{keyAt, key-next}
 use Rattle.keys.proofs.fill_street.Statement.{statement}
 use Rattle.keys.proofs.fill_street.Tie as tie
 
 abbrev Inv-loop : tie.InvT-loop
-Inv-loop n s row keys₀ j₀ j-end keys j = (j ≤ j-end) × (j-end ≡ length row) × Passed n s row keys₀ keys j
+Inv-loop n s row keys₀ j₀ j-end keys j = (j ≤ j-end) × (j-end ≡ length row) × Passed (keyAt (length row)) n s row keys₀ keys j
 
 abbrev μ-loop : tie.MeasureT-loop
 μ-loop n s row keys₀ j₀ j-end keys j = j-end - j
@@ -24,7 +25,7 @@ spot c =
     (passed-room (p .0) (p .1 .0) (l .inv .2) (omega arith), passed-size (p .0) (p .1 .0) (l .inv .2))
 
 loop-holds : tie.Need-loop-holds Inv-loop μ-loop
-loop-holds c = (search needs, refl, passed-none _ _ _ _ (c .pre .1 .1))
+loop-holds c = (search needs, refl, passed-none _ _ _ _ _ (c .pre .1 .1))
 
 shared-slice-read-b : tie.Need-shared-slice-read-b Inv-loop μ-loop
 shared-slice-read-b c = search needs
@@ -63,7 +64,10 @@ loop-less : tie.Need-loop-less Inv-loop μ-loop
 loop-less c = search needs
 
 loop-again : tie.Need-loop-again Inv-loop μ-loop
-loop-again c = let p = c .before .before .before .before .pre in (omega arith, refl, passed-more (p .0) (p .1 .0) (c .before .before .before .loop .inv .2) (omega arith) (c .if1 .left))
+loop-again c =
+    let p = c .before .before .before .before .pre in
+    let l = c .before .before .before .loop in
+    (omega arith, refl, passed-more (p .0) (p .1 .0) (l .inv .2) _ (key-next _ (l .j)) (omega arith) (c .if1 .left))
 
 same-length-2 : tie.Need-same-length-2 Inv-loop μ-loop
 same-length-2 c = c .before .loop .inv .2 .size

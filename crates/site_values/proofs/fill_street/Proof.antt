@@ -1,16 +1,18 @@
 -- `site_values::fill_street` meets its contract. Assumes nothing.
 use borrow.Author.Needs.{needs}
-use mathlib.Core.Path.{_≡_, refl}
+use mathlib.Core.Path.{_≡_, refl, sym}
 use Prim.Native.Nat.{_≤_, _<_, _-_, _+_, _*_}
 use native.Mathlib.Omega.{arith}
 use lib.ListN.{length}
 use Rattle.counting.specs.Lists.{at}
-use Rattle.site_values.proofs.Filling.{Passed, passed-none, passed-room, passed-size, passed-more, passed-stop, passed-all}
+use Rattle.survey.specs.Rows.{scoreAt}
+use Rattle.survey.proofs.Places.{score-next}
+use Rattle.survey.proofs.BySite.{Passed, passed-none, passed-room, passed-size, passed-more, passed-stop, passed-all}
 use Rattle.site_values.proofs.fill_street.Statement.{statement}
 use Rattle.site_values.proofs.fill_street.Tie as tie
 
 abbrev Inv-loop : tie.InvT-loop
-Inv-loop n s scores row values₀ j₀ j-end values j = (j ≤ j-end) × (j-end ≡ length row) × Passed n s scores row values₀ values j
+Inv-loop n s scores row values₀ j₀ j-end values j = (j ≤ j-end) × (j-end ≡ length row) × Passed (scoreAt scores) n s row values₀ values j
 
 abbrev μ-loop : tie.MeasureT-loop
 μ-loop n s scores row values₀ j₀ j-end values j = j-end - j
@@ -63,7 +65,11 @@ loop-less : tie.Need-loop-less Inv-loop μ-loop
 loop-less c = search needs
 
 loop-again : tie.Need-loop-again Inv-loop μ-loop
-loop-again c = let p = c .before .before .before .before .before .pre in (omega arith, refl, passed-more (p .0 .0) (p .1 .0) (c .before .before .before .before .loop .inv .2) (omega arith) (c .before .if1 .left))
+loop-again c =
+    let a = c .before .before .before .before .before .args in
+    let p = c .before .before .before .before .before .pre in
+    let l = c .before .before .before .before .loop in
+    (omega arith, refl, passed-more (p .0 .0) (p .1 .0) (l .inv .2) _ (sym (score-next (a .scores .now) (l .j))) (omega arith) (c .before .if1 .left))
 
 same-length-2 : tie.Need-same-length-2 Inv-loop μ-loop
 same-length-2 c = c .before .loop .inv .2 .size

@@ -4,14 +4,14 @@ use mathlib.Core.Path.{sym, _∙_}
 use Prim.Native.Nat.{_+_, _*_, _≤_, _-_}
 use native.Mathlib.Omega.{arith}
 use lib.ListN.{length}
-use Rattle.counting.proofs.Tables.{row-within}
-use Rattle.survey.specs.Rows.{value}
-use Rattle.site_values.proofs.Filling.{Filled, filled-none, filled-all, filled-more, street-sound, street-room, street-unscored}
+use Rattle.survey.specs.Rows.{scoreAt}
+use Rattle.survey.proofs.BySite.{Filled, filled-more, ranked, row-ends, row-length, street-sound, street-room, street-unread}
+use Rattle.site_values.proofs.Tabled.{table-start, table-end}
 use Rattle.site_values.proofs.fill_values.Statement.{statement}
 use Rattle.site_values.proofs.fill_values.Tie as tie
 
 abbrev Inv-loop : tie.InvT-loop
-Inv-loop n m scores rows values₀ s₀ values s = (s ≤ n) × Filled (value m scores rows) n m values s
+Inv-loop n m scores rows values₀ s₀ values s = (s ≤ n) × Filled (scoreAt scores) n m rows values s
 
 abbrev μ-loop : tie.MeasureT-loop
 μ-loop n m scores rows values₀ s₀ values s = n - s
@@ -20,13 +20,10 @@ abbrev μ-loop : tie.MeasureT-loop
 ends : (c : tie.In-loop Inv-loop μ-loop) →
     let a = c .before .before .before .before .before .args in
     c .before .loop .s * a .m + a .m ≤ length (a .rows .now)
-ends c =
-    let a = c .before .before .before .before .before .args in
-    let ok = c .before .before .before .before .before .pre .0 in
-    omega (arith, row-within (a .n) (a .m) (c .before .loop .s) (omega arith), ok .rows-fit)
+ends c = row-ends (ranked _ _ _ _ (c .before .before .before .before .before .pre .0)) (omega arith)
 
 loop-holds : tie.Need-loop-holds Inv-loop μ-loop
-loop-holds c = (search needs, filled-none _ _ _ _ (c .before .before .before .pre .1))
+loop-holds c = (search needs, table-start _ _ (c .before .before .before .args .scores .now) _ _ (c .before .before .before .pre .1))
 
 mul-low : tie.Need-mul-low Inv-loop μ-loop
 mul-low c = omega (arith, ends c)
@@ -47,7 +44,8 @@ fill-street-requires : tie.Need-fill-street-requires Inv-loop μ-loop
 fill-street-requires c κs =
     let l = c .before .before .before .loop in
     let ok = c .before .before .before .before .before .before .before .pre .0 in
-    (street-sound ok (omega arith) (l .inv .1), (street-room ok (omega arith) (l .inv .1), street-unscored ok (omega arith) (l .inv .1)))
+    let rows = ranked _ _ _ _ ok in
+    ((street-sound rows (omega arith), ok .scores-fit ∙ sym (row-length rows (omega arith))), (street-room rows (omega arith) (l .inv .1), street-unread rows (omega arith) (l .inv .1)))
 
 add-s : tie.Need-add-s Inv-loop μ-loop
 add-s c = search needs
@@ -60,13 +58,13 @@ loop-again c =
     let ok = c .before .before .before .before .before .before .before .before .before .before .pre .0 in
     let l = c .before .before .before .before .before .before .loop in
     let call = c .before .before .fill-street in
-    (omega arith, filled-more ok (omega arith) (l .inv .1) (call .last .1 .1 .1 .1 .0) (call .kept .1 .1 .1 .1 .0) (call .ensures))
+    (omega arith, filled-more (ranked _ _ _ _ ok) (omega arith) (l .inv .1) (call .last .1 .1 .1 .1 .0) (call .kept .1 .1 .1 .1 .0) (call .ensures))
 
 same-length : tie.Need-same-length Inv-loop μ-loop
 same-length c = c .before .loop .inv .1 .size ∙ sym (c .before .before .before .before .before .pre .1 .size)
 
 returns : tie.Need-returns Inv-loop μ-loop
-returns c = filled-all (omega arith) (c .before .loop .inv .1)
+returns c = table-end _ _ (c .before .before .before .before .before .args .scores .now) _ _ _ (omega arith) (c .before .loop .inv .1)
 
 pub fill-values-spec : {M : Type 1} → statement M
 fill-values-spec =

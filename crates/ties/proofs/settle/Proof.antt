@@ -1,11 +1,25 @@
 -- `ties::settle` meets its contract. Assumes nothing.
 use borrow.Author.Needs.{needs}
-use mathlib.Core.Path.{refl}
-use lib.ListN.{replicate}
+use mathlib.Core.Path.{refl, _∙_}
+use Prim.Native.Nat.{ℕ}
+use native.Mathlib.Omega.{arith}
+use lib.ListN.{replicate, length-replicate}
 use Rattle.ties.proofs.Listing.{rows-same, rows-room}
+use Rattle.ties.proofs.Limiting.{limits-start}
 use Rattle.ties.proofs.Settled.{scene-of, standing-start}
 use Rattle.ties.proofs.settle.Statement.{statement}
 use Rattle.ties.proofs.settle.Tie as tie
+
+slice-aggregate-fill : tie.Need-slice-aggregate-fill
+slice-aggregate-fill c = search needs
+
+cast-fill : tie.Need-cast-fill
+cast-fill c =
+    let p = c .before .before .before .before .before .before .before .before .before .pre in
+    omega (arith, p .0 .few)
+
+fill-requires : tie.Need-fill-requires
+fill-requires c κs = search needs
 
 slice-aggregate-list-sites : tie.Need-slice-aggregate-list-sites
 slice-aggregate-list-sites c = search needs
@@ -15,7 +29,7 @@ slice-aggregate-list-sites-2 c = search needs
 
 list-sites-requires : tie.Need-list-sites-requires
 list-sites-requires c κs =
-    let start = c .before .before .before .before .before .before .before .before .before .before .before in
+    let start = c .before .before .before .before .before .before .before .before .before .before .before .before .before .before in
     let a = start .args in
     let p = start .pre in
     (scene-of (a .prices .now) (a .division .now) (p .0) (p .1 .1 .0) (p .1 .0), rows-room _ _ (p .0 .few-sites) (p .0 .few))
@@ -26,15 +40,25 @@ slice-aggregate-settle-streets c = search needs
 slice-aggregate-settle-streets-2 : tie.Need-slice-aggregate-settle-streets-2
 slice-aggregate-settle-streets-2 c = search needs
 
+slice-aggregate-settle-streets-3 : tie.Need-slice-aggregate-settle-streets-3
+slice-aggregate-settle-streets-3 c = search needs
+
 settle-streets-requires : tie.Need-settle-streets-requires
 settle-streets-requires c κs =
-    let t = c .before .before .before .before .before .before .before .before .before in
+    let t = c .before .before .before .before .before .before .before .before .before .before in
     let k = t .list-sites .kept in
     let tights = t .list-sites .last .1 .1 .1 .1 .0 in
     let ends = t .list-sites .last .1 .1 .1 .1 .1 .0 in
-    let p = t .before .before .before .before .before .before .before .before .before .before .before .before .pre in
+    let f = c .before .before .before .before .before .before .before .before .before .before .before .before .before .before .before .fill in
+    let size = f .kept .0 ∙ length-replicate {A = ℕ} 65 0 in
+    let start = c .before .before .before .before .before .before .before .before .before .before .before .before .before .before .before .before .before .before .before .before .before .before .before .before .before in
+    let a = start .args in
+    let p = start .pre in
+    let scene = scene-of (a .prices .now) (a .division .now) (p .0) (p .1 .1 .0) (p .1 .0) in
     let rows = rows-same _ (replicate 26065 0) (replicate 65 0) tights ends refl (k .1 .1 .1 .1 .0) (k .1 .1 .1 .1 .1 .0) (rows-room _ _ (p .0 .few-sites) (p .0 .few)) in
-    (p .0, (p .1 .1 .0, (p .1 .1 .1 .1, ((rows, t .list-sites .ensures), standing-start _ _ _ _ (p .1 .0) (p .1 .1 .1 .0)))))
+    let limits = limits-start 0 (a .division .now) (f .last .0) (λ x l. f .ensures x (omega (arith, f .kept .0))) (λ s l. omega (arith, scene .sited s l, scene .few-sites, size)) in
+    let settled = standing-start _ _ _ _ (p .1 .0) (p .1 .1 .1 .0) in
+    (p .0, (p .1 .1 .0, (p .1 .1 .1 .1, ((rows, t .list-sites .ensures), (settled, (omega (arith, scene .few-sites, size), limits))))))
 
 same-length : tie.Need-same-length
 same-length c = search needs
@@ -58,11 +82,15 @@ pub settle-spec : {M : Type 1} → statement M
 settle-spec =
     tie.close
     (tie.spec
+    slice-aggregate-fill
+    cast-fill
+    fill-requires
     slice-aggregate-list-sites
     slice-aggregate-list-sites-2
     list-sites-requires
     slice-aggregate-settle-streets
     slice-aggregate-settle-streets-2
+    slice-aggregate-settle-streets-3
     settle-streets-requires
     same-length
     same-length-2

@@ -1,124 +1,225 @@
 -- `ties::settle_street` meets its contract. Assumes nothing.
 use borrow.Author.Needs.{needs}
+use mathlib.Core.Path.{_≡_, _∙_}
+use mathlib.Core.Logic.{_≢_}
+use Prim.Native.Nat.{_≤_, _<_}
+use native.Mathlib.Numerals.{lt-of-le-of-ne}
 use native.Mathlib.Omega.{arith}
-use borrow.Author.Tests.{not-true}
-use Rattle.ties.proofs.Growth.{placed-fits}
-use Rattle.ties.proofs.Homeward.{way-home}
-use Rattle.ties.proofs.Settled.{scene-of, rowed-of, standing-still, listed-turned, standing-turned}
+use Rattle.counting.specs.Lists.{at}
+use Rattle.ties.proofs.Limiting.{last-street}
+use Rattle.ties.proofs.Settled.{scene-of, standing-still, standing-swapped, listed-swapped, limits-swapped}
 use Rattle.ties.proofs.settle_street.Statement.{statement}
 use Rattle.ties.proofs.settle_street.Tie as tie
 
-movable-requires : tie.Need-movable-requires
-movable-requires c κs =
-    let start = c .before .before .before .before .before .before .before .before .before .before .before in
+slice-read-a : tie.Need-slice-read-a
+slice-read-a c = search needs
+
+aim-requires : tie.Need-aim-requires
+aim-requires c κs =
+    let start = c .before .before .before .before .before .before .before .before .before .before .before .before .before .before in
     let a = start .args in
     let p = start .pre in
-    let scene = scene-of (a .prices .now) (a .division .now) (p .0) (p .1 .0) (p .1 .1 .1 .1 .1 .within) in
-    (scene, p .1 .1 .1 .0)
+    let scene = scene-of (a .prices .now) (a .division .now) (p .0) (p .1 .0) (p .1 .1 .1 .1 .1 .0 .within) in
+    (scene, ((p .1 .1 .1 .0, p .1 .1 .1 .1 .1 .1 .0), p .1 .1 .1 .1 .1 .1 .1))
+
+cast-if1 : tie.Need-cast-if1
+cast-if1 c =
+    let start = c .before .before .before .before .before .before .before .before .before .before .before .before .before .before .before .before .before in
+    let a = start .args in
+    let p = start .pre in
+    let scene = scene-of (a .prices .now) (a .division .now) (p .0) (p .1 .0) (p .1 .1 .1 .1 .1 .0 .within) in
+    let small = scene .sited (a .s) (p .1 .1 .1 .0) in
+    omega (arith, scene .few-sites)
 
 same-length : tie.Need-same-length
 same-length c = search needs
 
+same-length-2 : tie.Need-same-length-2
+same-length-2 c = c .before .before .before .aim .kept .1 .1 .1 .1 .1 .0
+
 returns : tie.Need-returns
 returns c =
-    let start = c .before .before .before .before .before .before .before .before .before .before .before .before .before in
-    let a = start .args in
+    let start = c .before .before .before .before .before .before .before .before .before .before .before .before .before .before .before .before .before .before in
     let p = start .pre in
-    let loose = c .before .movable .ensures (not-true _ (c .if1 .taken)) in
-    (standing-still (a .shares .now) (a .division .now) (a .s) (p .0 .nobody) (p .1 .1 .1 .0) loose (p .1 .1 .1 .1 .1), p .1 .1 .1 .1 .0 .1)
+    let e = c .before .before .before .aim .ensures in
+    (standing-still (p .1 .1 .1 .1 .1 .0) (p .0 .nobody) (p .1 .1 .1 .0) (e .1) (e .0) (c .if1 .taken), (p .1 .1 .1 .1 .0 .1, e .1))
 
-grow-requires : tie.Need-grow-requires
-grow-requires c κs =
+mul-limit : tie.Need-mul-limit
+mul-limit c =
     let start = c .before .before .before .before .before .before .before .before .before .before .before .before .before .before .before .before .before .before in
     let a = start .args in
     let p = start .pre in
-    let scene = scene-of (a .prices .now) (a .division .now) (p .0) (p .1 .0) (p .1 .1 .1 .1 .1 .within) in
-    let listed = p .1 .1 .1 .1 .0 in
-    let rowed = rowed-of (a .tights .now) (a .ends .now) (a .division .now) (p .0) (p .1 .1 .1 .1 .1 .within) (listed .1) in
-    (scene, (p .1 .1 .0, (p .1 .1 .1 .0, (listed .0, rowed))))
+    let e = c .before .before .before .aim .ensures in
+    let scene = scene-of (a .prices .now) (a .division .now) (p .0) (p .1 .0) (p .1 .1 .1 .1 .1 .0 .within) in
+    let small = scene .sited (a .s) (p .1 .1 .1 .0) in
+    omega (arith, scene .few-sites, e .0 .within)
 
-lowest-requires : tie.Need-lowest-requires
-lowest-requires c κs =
-    let t = c .before .before .before .before .before .before .before .before .before .before in
-    let g = t .grow .ensures in
-    let start = t .before .before .before .before .before .before .before .before .before .before .before .before .before .before .before .before .before .before .before in
+slice-read-limit : tie.Need-slice-read-limit
+slice-read-limit c =
+    let start = c .before .before .before .before .before .before .before .before .before .before .before .before .before .before .before .before .before .before .before in
     let a = start .args in
     let p = start .pre in
-    let scene = scene-of (a .prices .now) (a .division .now) (p .0) (p .1 .0) (p .1 .1 .1 .1 .1 .within) in
-    let fits = placed-fits (g .placed) in
-    let room = t .grow .kept .1 .1 .1 .1 .1 .1 .1 .1 .1 .0 in
-    (scene, ((p .1 .1 .1 .0, g .some, omega (arith, p .1 .1 .0 .sites-fit), g .queue .home), g .placed .within))
+    let e = c .before .before .before .before .aim .ensures in
+    let scene = scene-of (a .prices .now) (a .division .now) (p .0) (p .1 .0) (p .1 .1 .1 .1 .1 .0 .within) in
+    let small = scene .sited (a .s) (p .1 .1 .1 .0) in
+    omega (arith, e .0 .within, p .1 .1 .1 .1 .1 .1 .0, c .before .before .before .before .aim .kept .1 .1 .1 .1 .1 .0)
 
-turn-requires : tie.Need-turn-requires
-turn-requires c κs =
-    let u = c .before .before .before .before in
-    let l = u .lowest .ensures in
-    let t = u .before .before .before .before .before .before .before .before .before .before .before in
-    let g = t .grow .ensures in
-    let k = t .grow .kept in
-    let p = t .before .before .before .before .before .before .before .before .before .before .before .before .before .before .before .before .before .before .before .pre in
-    let room = p .1 .1 .0 in
-    let fits = placed-fits (g .placed) in
-    let streets = k .1 .1 .1 .1 .1 .1 .1 .0 in
-    let nexts = k .1 .1 .1 .1 .1 .1 .1 .1 .0 in
-    let sites = k .1 .1 .1 .1 .1 .1 .1 .1 .1 .0 in (
-      (p .1 .1 .1 .0, omega (arith, room .streets-fit, l .within), omega (arith, room .nexts-fit, l .within), omega (arith, room .sites-fit, l .within)),
-      way-home (u .lowest .result) (l .within) g,
-    )
+cast-t : tie.Need-cast-t
+cast-t c =
+    let start = c .before .before .before .before .before .before .before .before .before .before .before .before .before .before .before .before .before .before .before in
+    let p = start .pre in
+    let e = c .before .before .before .before .aim .ensures in
+    omega (arith, p .0 .few, e .1 .within (c .before .before .before .before .aim .result))
 
-same-length-2 : tie.Need-same-length-2
-same-length-2 c = c .before .before .turn .kept .0
+sub-t : tie.Need-sub-t
+sub-t c =
+    let start = c .before .before .before .before .before .before .before .before .before .before .before .before .before .before .before .before .before .before .before in
+    let a = start .args in
+    let e = c .before .before .before .before .aim .ensures in
+    let r = c .before .before .before .before .aim in
+    let last = last-street (a .division .now) (a .s) (r .last .1 .1 .1 .1 .1 .0) (r .result) (e .0 .left (lt-of-le-of-ne (e .0 .within) (c .before .if1 .left))) in
+    omega (arith, last .0)
+
+cast-tight : tie.Need-cast-tight
+cast-tight c =
+    let start = c .before .before .before .before .before .before .before .before .before .before .before .before .before .before .before .before .before .before .before .before in
+    let a = start .args in
+    let p = start .pre in
+    let scene = scene-of (a .prices .now) (a .division .now) (p .0) (p .1 .0) (p .1 .1 .1 .1 .1 .0 .within) in
+    let small = scene .sited (a .s) (p .1 .1 .1 .0) in
+    omega (arith, scene .few-sites)
+
+tight-requires : tie.Need-tight-requires
+tight-requires c κs =
+    let start = c .before .before .before .before .before .before .before .before .before .before .before .before .before .before .before .before .before .before .before .before in
+    let a = start .args in
+    let p = start .pre in
+    let e = c .before .before .before .before .before .aim .ensures in
+    let scene = scene-of (a .prices .now) (a .division .now) (p .0) (p .1 .0) (p .1 .1 .1 .1 .1 .0 .within) in
+    let small = scene .sited (a .s) (p .1 .1 .1 .0) in
+    let r = c .before .before .before .before .before .aim in
+    let last = last-street (a .division .now) (a .s) (r .last .1 .1 .1 .1 .1 .0) (r .result) (e .0 .left (lt-of-le-of-ne (e .0 .within) (c .before .before .if1 .left))) in
+    (scene, (last .1 .street, small))
+
+slice-write-division : tie.Need-slice-write-division
+slice-write-division c =
+    let start = c .before .before .before .before .before .before .before .before .before .before .before .before .before .before .before .before .before .before .before .before .before .before in
+    let a = start .args in
+    let e = c .before .before .before .before .before .before .before .aim .ensures in
+    let r = c .before .before .before .before .before .before .before .aim in
+    let last = last-street (a .division .now) (a .s) (r .last .1 .1 .1 .1 .1 .0) (r .result) (e .0 .left (lt-of-le-of-ne (e .0 .within) (c .before .before .before .before .if1 .left))) in
+    last .1 .street
+
+cast-division : tie.Need-cast-division
+cast-division c =
+    let start = c .before .before .before .before .before .before .before .before .before .before .before .before .before .before .before .before .before .before .before .before .before .before in
+    let a = start .args in
+    let p = start .pre in
+    let e = c .before .before .before .before .before .before .before .aim .ensures in
+    let scene = scene-of (a .prices .now) (a .division .now) (p .0) (p .1 .0) (p .1 .1 .1 .1 .1 .0 .within) in
+    let small = scene .sited (a .s) (p .1 .1 .1 .0) in
+    omega (arith, scene .few-sites, e .0 .within)
+
+slice-write-division-2 : tie.Need-slice-write-division-2
+slice-write-division-2 c = search needs
+
+cast-raise : tie.Need-cast-raise
+cast-raise c =
+    let start = c .before .before .before .before .before .before .before .before .before .before .before .before .before .before .before .before .before .before .before .before .before .before .before in
+    let a = start .args in
+    let p = start .pre in
+    let scene = scene-of (a .prices .now) (a .division .now) (p .0) (p .1 .0) (p .1 .1 .1 .1 .1 .0 .within) in
+    let small = scene .sited (a .s) (p .1 .1 .1 .0) in
+    omega (arith, scene .few-sites)
+
+raise-requires : tie.Need-raise-requires
+raise-requires c κs =
+    let start = c .before .before .before .before .before .before .before .before .before .before .before .before .before .before .before .before .before .before .before .before .before .before .before in
+    let a = start .args in
+    let p = start .pre in
+    let scene = scene-of (a .prices .now) (a .division .now) (p .0) (p .1 .0) (p .1 .1 .1 .1 .1 .0 .within) in
+    let small = scene .sited (a .s) (p .1 .1 .1 .0) in
+    omega (arith, p .1 .1 .1 .1 .1 .1 .0, c .before .before .before .before .before .before .before .before .aim .kept .1 .1 .1 .1 .1 .0)
 
 same-length-3 : tie.Need-same-length-3
-same-length-3 c =
-    let u = c .before .before .before .before .before .before .before in
-    let t = u .before .before .before .before .before .before .before .before .before .before .before in
-    t .grow .kept .1 .1 .1 .1 .1 .1 .1 .0
+same-length-3 c = search needs
 
 same-length-4 : tie.Need-same-length-4
-same-length-4 c =
-    let u = c .before .before .before .before .before .before .before in
-    let t = u .before .before .before .before .before .before .before .before .before .before .before in
-    t .grow .kept .1 .1 .1 .1 .1 .1 .1 .1 .0
-
-same-length-5 : tie.Need-same-length-5
-same-length-5 c =
-    let u = c .before .before .before .before .before .before .before in
-    let t = u .before .before .before .before .before .before .before .before .before .before .before in
-    t .grow .kept .1 .1 .1 .1 .1 .1 .1 .1 .1 .0
-
-same-length-6 : tie.Need-same-length-6
-same-length-6 c =
-    let u = c .before .before .before .before .before .before .before in
-    let t = u .before .before .before .before .before .before .before .before .before .before .before in
-    t .grow .kept .1 .1 .1 .1 .1 .1 .1 .1 .1 .1 .0
+same-length-4 c = c .before .before .raise .kept .0 ∙ c .before .before .before .before .before .before .before .before .before .before .before .aim .kept .1 .1 .1 .1 .1 .0
 
 returns-2 : tie.Need-returns-2
 returns-2 c =
-    let t = c .before .before in
-    let u = t .before .before .before .before .before in
-    let w = u .before .before .before .before .before .before .before .before .before .before .before in
-    let start = w .before .before .before .before .before .before .before .before .before .before .before .before .before .before .before .before .before .before .before in
+    let start = c .before .before .before .before .before .before .before .before .before .before .before .before .before .before .before .before .before .before .before .before .before .before .before .before .before .before in
     let a = start .args in
     let p = start .pre in
-    let h = p .1 .1 .1 .1 .1 in
+    let e = c .before .before .before .before .before .before .before .before .before .before .before .aim .ensures in
+    let r = c .before .before .before .before .before .before .before .before .before .before .before .aim in
+    let last = last-street (a .division .now) (a .s) (r .last .1 .1 .1 .1 .1 .0) (r .result) (e .0 .left (lt-of-le-of-ne (e .0 .within) (c .before .before .before .before .before .before .before .before .if1 .left))) in
+    let h = p .1 .1 .1 .1 .1 .0 in
     let l = p .1 .1 .1 .0 in
-    let listed = listed-turned h l (w .grow .ensures) (u .lowest .ensures) (t .turn .ensures) (a .shares .now) _ (a .tights .now) (a .ends .now) in
-    (standing-turned h l (w .grow .ensures) (u .lowest .ensures) (t .turn .ensures), listed (p .1 .1 .1 .1 .0 .1))
+    let other = c .before .before .before .before .before .before .before .before .if1 .left in
+    let back = c .before .before .before .before .before .tight .ensures .0 (c .before .before .before .before .if2 .taken) in
+    let listed = listed-swapped h (p .0 .nobody) l (e .1) (e .0) other (last .1) back _ (a .tights .now) (a .ends .now) (p .1 .1 .1 .1 .0 .1) in
+    let limits = limits-swapped h (p .0 .nobody) l (e .1) (e .0) other (last .1) back (c .before .before .raise .last .0) (rw (last .0) (c .before .before .raise .ensures)) in
+    (standing-swapped h (p .0 .nobody) l (e .1) (e .0) other (last .1) back, (listed, limits))
+
+settle-far-requires : tie.Need-settle-far-requires
+settle-far-requires c κs =
+    let start = c .before .before .before .before .before .before .before .before .before .before .before .before .before .before .before .before .before .before .before .before .before .before .before .before .before .before .before .before in
+    let p = start .pre in
+    let e = c .before .before .before .before .before .before .before .before .before .before .before .before .before .aim .ensures in
+    (p .0, (p .1 .0, (p .1 .1 .0, (p .1 .1 .1 .0, (p .1 .1 .1 .1 .0, (p .1 .1 .1 .1 .1 .0, (omega (arith, p .1 .1 .1 .1 .1 .1 .0, c .before .before .before .before .before .before .before .before .before .before .before .before .before .aim .kept .1 .1 .1 .1 .1 .0), e .1)))))))
+
+same-length-5 : tie.Need-same-length-5
+same-length-5 c = search needs
+
+same-length-6 : tie.Need-same-length-6
+same-length-6 c = search needs
+
+same-length-7 : tie.Need-same-length-7
+same-length-7 c = search needs
+
+same-length-8 : tie.Need-same-length-8
+same-length-8 c = search needs
+
+same-length-9 : tie.Need-same-length-9
+same-length-9 c = search needs
+
+same-length-10 : tie.Need-same-length-10
+same-length-10 c = c .before .before .before .before .before .before .before .before .before .before .before .before .settle-far .kept .1 .1 .1 .1 .1 .1 .1 .1 .1 .1 .1 .0 ∙ c .before .before .before .before .before .before .before .before .before .before .before .before .before .before .before .before .before .before .before .before .before .before .before .before .before .before .aim .kept .1 .1 .1 .1 .1 .0
+
+returns-3 : tie.Need-returns-3
+returns-3 c = search needs
 
 pub settle-street-spec : {M : Type 1} → statement M
 settle-street-spec =
     tie.close
     (tie.spec
-    movable-requires
+    slice-read-a
+    aim-requires
+    cast-if1
     same-length
-    returns
-    grow-requires
-    lowest-requires
-    turn-requires
     same-length-2
+    returns
+    mul-limit
+    slice-read-limit
+    cast-t
+    sub-t
+    cast-tight
+    tight-requires
+    slice-write-division
+    cast-division
+    slice-write-division-2
+    cast-raise
+    raise-requires
     same-length-3
     same-length-4
+    returns-2
+    settle-far-requires
     same-length-5
     same-length-6
-    returns-2)
+    same-length-7
+    same-length-8
+    same-length-9
+    same-length-10
+    returns-3)

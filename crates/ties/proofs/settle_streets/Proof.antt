@@ -6,37 +6,41 @@ use native.Mathlib.Omega.{arith}
 use lib.ListN.{length}
 use Rattle.counting.specs.Lists.{at, cell}
 use Rattle.division.specs.Town.{tail}
+use Rattle.ties.specs.Limits.{Leaver, Limits}
 use Rattle.ties.specs.Standing.{Standing}
 use Rattle.ties.specs.Tights.{Listed}
 use Rattle.ties.proofs.Bounds.{room-same}
 use Rattle.ties.proofs.Listing.{rows-same}
+use Rattle.ties.proofs.Limiting.{limits-next}
 use Rattle.ties.proofs.Settled.{town-same, standing-best}
 use Rattle.ties.proofs.settle_streets.Statement.{statement}
 use Rattle.ties.proofs.settle_streets.Tie as tie
 
 abbrev Inv-loop : tie.InvT-loop
-Inv-loop values shares prices division₀ tights ends streets₀ nexts₀ sites₀ marks₀ s₀ s-end division streets nexts sites marks s =
+Inv-loop values shares prices division₀ tights ends streets₀ nexts₀ sites₀ marks₀ limits₀ s₀ s-end division streets nexts sites marks limits s =
     (s ≤ s-end) × (s-end ≡ length division₀) × (length division ≡ length division₀) × (length streets ≡ length streets₀) × (length nexts ≡ length nexts₀)
     × (length sites ≡ length sites₀) × (length marks ≡ length marks₀) × Standing (cell values (length shares)) (at prices) (tail shares) division s
-    × Listed (cell values (length shares)) (at prices) division shares (length shares) tights ends
+    × Listed (cell values (length shares)) (at prices) division shares (length shares) tights ends × (length limits ≡ length limits₀)
+    × Limits (Leaver (cell values (length shares)) (at prices) shares division) s division limits
 
 abbrev μ-loop : tie.MeasureT-loop
-μ-loop values shares prices division₀ tights ends streets₀ nexts₀ sites₀ marks₀ s₀ s-end division streets nexts sites marks s = s-end - s
+μ-loop values shares prices division₀ tights ends streets₀ nexts₀ sites₀ marks₀ limits₀ s₀ s-end division streets nexts sites marks limits s = s-end - s
 
 loop-holds : tie.Need-loop-holds Inv-loop μ-loop
 loop-holds c =
-    let p = c .before .before .before .before .before .before .before .before .before .before .pre in
-    (omega arith, refl, refl, refl, refl, refl, refl, p .1 .1 .1 .1, p .1 .1 .1 .0 .1)
+    let p = c .before .before .before .before .before .before .before .before .before .before .before .pre in
+    (omega arith, refl, refl, refl, refl, refl, refl, p .1 .1 .1 .1 .0, p .1 .1 .1 .0 .1, refl, p .1 .1 .1 .1 .1 .1)
 
 settle-street-requires : tie.Need-settle-street-requires Inv-loop μ-loop
 settle-street-requires c κs =
-    let l = c .before .before .before .before .before .before in
+    let l = c .before .before .before .before .before .before .before in
     let i = l .loop .inv in
-    let start = l .before .before .before .before .before .before .before .before .before .before .before in
+    let start = l .before .before .before .before .before .before .before .before .before .before .before .before in
     let a = start .args in
     let p = start .pre in
     let room = room-same (i .3) (i .4) (i .5) (i .6) (p .1 .1 .0) in
-    (town-same _ (i .2) (p .0), (p .1 .0, (room, (omega (arith, i .2), ((rows-same _ (a .tights .now) (a .ends .now) (a .tights .now) (a .ends .now) (i .2) refl refl (p .1 .1 .1 .0 .0), i .8), i .7)))))
+    let rows = rows-same _ (a .tights .now) (a .ends .now) (a .tights .now) (a .ends .now) (i .2) refl refl (p .1 .1 .1 .0 .0) in
+    (town-same _ (i .2) (p .0), (p .1 .0, (room, (omega (arith, i .1, i .2, c .before .before .before .before .before .before .loop-test .taken), ((rows, i .8), (i .7, (omega (arith, i .9, p .1 .1 .1 .1 .1 .0), i .10)))))))
 
 add-s : tie.Need-add-s Inv-loop μ-loop
 add-s c = search needs
@@ -46,15 +50,17 @@ loop-less c = search needs
 
 loop-again : tie.Need-loop-again Inv-loop μ-loop
 loop-again c =
-    let t = c .before .before .before .before .before .before .before .before .before .before in
+    let t = c .before .before .before .before .before .before .before .before .before .before .before .before in
     let k = t .settle-street .kept in
-    let i = t .before .before .before .before .before .before .before .loop .inv in
+    let e = t .settle-street .ensures in
+    let i = t .before .before .before .before .before .before .before .before .loop .inv in
     let division = k .1 .1 .1 .0 ∙ i .2 in
     let streets = k .1 .1 .1 .1 .1 .1 .1 .0 ∙ i .3 in
     let nexts = k .1 .1 .1 .1 .1 .1 .1 .1 .0 ∙ i .4 in
     let sites = k .1 .1 .1 .1 .1 .1 .1 .1 .1 .0 ∙ i .5 in
     let marks = k .1 .1 .1 .1 .1 .1 .1 .1 .1 .1 .0 ∙ i .6 in
-    (omega arith, i .1, division, streets, nexts, sites, marks, t .settle-street .ensures .0, t .settle-street .ensures .1)
+    let limits = k .1 .1 .1 .1 .1 .1 .1 .1 .1 .1 .1 .0 ∙ i .9 in
+    (omega arith, i .1, division, streets, nexts, sites, marks, e .0, e .1 .0, limits, limits-next (e .1 .1))
 
 same-length : tie.Need-same-length Inv-loop μ-loop
 same-length c = c .before .loop .inv .2
@@ -70,6 +76,9 @@ same-length-4 c = c .before .loop .inv .5
 
 same-length-5 : tie.Need-same-length-5 Inv-loop μ-loop
 same-length-5 c = c .before .loop .inv .6
+
+same-length-6 : tie.Need-same-length-6 Inv-loop μ-loop
+same-length-6 c = c .before .loop .inv .9
 
 returns : tie.Need-returns Inv-loop μ-loop
 returns c =
@@ -92,4 +101,5 @@ settle-streets-spec =
     same-length-3
     same-length-4
     same-length-5
+    same-length-6
     returns)

@@ -4,7 +4,8 @@ use Prim.Native.Nat.{_+_, _*_, _-_, _≤_}
 use native.Mathlib.Omega.{arith}
 use Rattle.survey.specs.Rows.{value}
 use Rattle.counting.proofs.Tables.{row-within}
-use Rattle.values.proofs.Filling.{Filled, filled-start, filled-all, street-sound, street-sized, street-blank, street-filled}
+use Rattle.survey.proofs.BySite.{ranked, street-sound}
+use Rattle.values.proofs.Filling.{Filled, filled-start, filled-all, street-sized, street-blank, street-filled}
 use Rattle.values.proofs.fill_values.Statement.{statement}
 use Rattle.values.proofs.fill_values.Tie as tie
 
@@ -68,7 +69,7 @@ fill-row-requires : tie.Need-fill-row-requires Inv-loop μ-loop
 fill-row-requires c κs =
     let t = c .before .before .before .loop in
     let ok = c .before .before .before .before .before .before .before .pre .0 in
-    (street-sound ok (omega arith) (t .inv .1), (street-sized ok (omega arith) (t .inv .1), street-blank ok (omega arith) (t .inv .1)))
+    (street-sound (ranked _ _ _ _ ok) (omega arith), (street-sized ok (omega arith) (t .inv .1), street-blank ok (omega arith) (t .inv .1)))
 
 add-s : tie.Need-add-s Inv-loop μ-loop
 add-s c = search needs

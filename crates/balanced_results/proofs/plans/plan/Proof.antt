@@ -6,8 +6,10 @@ use lib.ListN.{length}
 use Prim.Native.Nat.{_+_}
 use Rattle.counting.proofs.Parts.{front-length, front-blank}
 use Rattle.survey.specs.Rows.{value}
+use Rattle.survey.proofs.BySite.{ranked}
 use Rattle.values.proofs.Tabled.{table-of, table-fits, table-blank, table-room, table-size, table-ready, table-same}
-use Rattle.balanced_results.proofs.Played.{ranked, ranked-of, even-of, plan-surveyed}
+use Rattle.balanced_results.proofs.Falling.{table-falls}
+use Rattle.balanced_results.proofs.Played.{ranked-of, even-of, plan-surveyed}
 use Rattle.balanced_results.proofs.plans.plan.Statement.{statement}
 use Rattle.balanced_results.proofs.plans.plan.Tie as tie
 
@@ -60,7 +62,7 @@ plan-table-requires : tie.Need-plan-table-requires
 plan-table-requires c κs =
     let a = c .before .before .before .before .before .before .before .before .before .before .before .args in
     let p = c .before .before .before .before .before .before .before .before .before .before .before .pre in
-    ((table-of _ _ _ _ (p .1) (table-ready (a .n) (a .m) (a .scores .now) (a .rows .now) (p .0 .0) _ _ (c .before .before .before .before .before .fill-values .ensures)), ranked-of _ _ _ _ (p .1) (ranked (a .n) (a .m) (a .scores .now) (a .rows .now) (p .0 .0))), ((p .0 .1, p .0 .2, even-of (a .n) (length (a .chosen .now)) _ (p .1) (p .0 .3)), (front-length (a .m + 1) 65 (omega (arith, p .0 .0 .few-sites)), front-blank (a .m + 1) 65 (omega (arith, p .0 .0 .few-sites)))))
+    ((table-of _ _ _ _ (p .1) (table-ready (a .n) (a .m) (a .scores .now) (a .rows .now) (p .0 .0) _ _ (c .before .before .before .before .before .fill-values .ensures)), ranked-of _ _ _ _ (p .1) (ranked (a .n) (a .m) (a .scores .now) (a .rows .now) (p .0 .0)), table-falls (a .n) (a .m) (a .scores .now) (a .rows .now) (p .0 .0) _ _ (p .1) (table-same (a .n) (a .m) (a .scores .now) (a .rows .now) (p .0 .0) _ _ (c .before .before .before .before .before .fill-values .ensures))), ((p .0 .1, p .0 .2, even-of (a .n) (length (a .chosen .now)) _ (p .1) (p .0 .3)), (front-length (a .m + 1) 65 (omega (arith, p .0 .0 .few-sites)), front-blank (a .m + 1) 65 (omega (arith, p .0 .0 .few-sites)))))
 
 same-length : tie.Need-same-length
 same-length c = search needs

@@ -8,6 +8,7 @@ use Rattle.values.specs.Table.{valueIn}
 use Rattle.balanced_plan.specs.Rounds.{placeKey, evenShare}
 use Rattle.balanced_plan.proofs.Agree.{rounds-agree}
 use Rattle.balanced_rounds.proofs.Rounding.{lines-small}
+use Rattle.balanced_results.proofs.Falling.{lines-fall}
 use Rattle.balanced_results.proofs.Played.{lines-ordered, lined-same, keyed-same, keys-right}
 use Rattle.balanced_results.proofs.plans.play.Statement.{statement}
 use Rattle.balanced_results.proofs.plans.play.Tie as tie
@@ -82,7 +83,12 @@ rounds-requires : tie.Need-rounds-requires
 rounds-requires c κs =
     let a = c .before .before .before .before .before .before .before .before .before .before .args in
     let p = c .before .before .before .before .before .before .before .before .before .before .pre in
-    ((p .0 .0, lines-ordered (a .n) (a .m) _ (back-size ((a .m + 1) * a .n) (c .before .before .fill-orders .last .1 .1 .1 .0) _ (c .before .before .fill-orders .kept .1 .1 .1 .0 ∙ front-length ((a .m + 1) * a .n) 26000 (lines-small (a .n) (a .m) (p .0 .0 .few-streets) (p .0 .0 .few-sites)))) _ (lined-same (a .n) (a .m) _ _ _ (back-is ((a .m + 1) * a .n) (c .before .before .fill-orders .last .1 .1 .1 .0) _ (c .before .before .fill-orders .kept .1 .1 .1 .0 ∙ front-length ((a .m + 1) * a .n) 26000 (lines-small (a .n) (a .m) (p .0 .0 .few-streets) (p .0 .0 .few-sites)))) (c .before .before .fill-orders .ensures))), p .1)
+    let size = front-length ((a .m + 1) * a .n) 26000 (lines-small (a .n) (a .m) (p .0 .0 .few-streets) (p .0 .0 .few-sites)) in
+    let f = c .before .before .before .before .before .before .fill-keys in
+    let g = c .before .before .fill-orders in
+    let k = keys-right (a .n) (a .m) _ (back-size ((a .m + 1) * a .n) (f .last .1 .1 .1 .0) _ (f .kept .1 .1 .1 .0 ∙ size)) _ (keyed-same (a .n) (a .m) _ _ _ (back-is ((a .m + 1) * a .n) (f .last .1 .1 .1 .0) _ (f .kept .1 .1 .1 .0 ∙ size)) (f .ensures)) in
+    let o = lined-same (a .n) (a .m) _ _ _ (back-is ((a .m + 1) * a .n) (g .last .1 .1 .1 .0) _ (g .kept .1 .1 .1 .0 ∙ size)) (g .ensures) in
+    ((p .0 .0, lines-ordered (a .n) (a .m) _ (back-size ((a .m + 1) * a .n) (g .last .1 .1 .1 .0) _ (g .kept .1 .1 .1 .0 ∙ size)) _ o, lines-fall (valueIn (a .values .now) (a .m)) _ (a .n) (a .m) (a .rows .now) _ k o (p .0 .2)), p .1)
 
 returns : tie.Need-returns
 returns c =

@@ -8,7 +8,7 @@ use Rattle.values.specs.Table.{valueIn}
 use lib.Seq.{length-take-le}
 use Rattle.balanced_plan.specs.Rounds.{taken}
 use Rattle.balanced_rounds.specs.Lines.{stateOf}
-use Rattle.balanced_rounds.proofs.Rounding.{lines-of, orders-of, choice-flagged}
+use Rattle.balanced_rounds.proofs.Rounding.{lines-of, orders-of, falling-of, choice-flagged}
 use Rattle.balanced_rounds.proofs.State.round.Statement.{statement}
 use Rattle.balanced_rounds.proofs.State.round.Tie as tie
 
@@ -28,7 +28,8 @@ choose-requires : tie.Need-choose-requires
 choose-requires c κs =
     let a = c .before .before .before .before .before .before .args in
     let p = c .before .before .before .before .before .before .pre in
-    ((table-of (a .n) (a .m) _ _ (length-take-le (a .n) (a .self .division) (omega (arith, p .0 .0 .few-streets, p .1 .0 .division-size))) (p .0 .0), lines-of _ (a .n) (a .m) _ (length-take-le (a .n) (a .self .division) (omega (arith, p .0 .0 .few-streets, p .1 .0 .division-size))) (p .0 .1)), (p .1 .0 .marks .size, p .1 .2))
+    let e = length-take-le (a .n) (a .self .division) (omega (arith, p .0 .0 .few-streets, p .1 .0 .division-size)) in
+    ((table-of (a .n) (a .m) _ _ e (p .0 .0), lines-of _ (a .n) (a .m) _ e (p .0 .1), falling-of _ (a .n) (a .m) (valueIn (a .values .now) (a .m)) (a .orders .now) e (p .0 .2)), (p .1 .0 .marks .size, p .1 .2))
 
 cast-taking : tie.Need-cast-taking
 cast-taking c =

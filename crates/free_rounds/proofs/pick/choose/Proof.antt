@@ -26,7 +26,7 @@ abbrev μ-loop : tie.MeasureT-loop
 sizes : (c : tie.In-loop Inv-loop μ-loop) →
     let a = c .before .before .before .before .before .before .before .args in
     let l = c .before .loop in
-    (c .before .before .sum .result ≤ 39600000) × (at (l .bounds) (l .i + 1) ≤ 39600000) × (l .i + 1 < length (l .bounds)) × (l .i + 1 < length (a .marks .now))
+    (c .before .before .sum .result ≤ 400000) × (at (l .bounds) (l .i + 1) ≤ 400000) × (l .i + 1 < length (l .bounds)) × (l .i + 1 < length (a .marks .now))
 sizes c =
     let a = c .before .before .before .before .before .before .before .args in
     let p = c .before .before .before .before .before .before .before .pre in
@@ -102,7 +102,7 @@ sum-with-requires c κs =
 summed : (c : tie.After-sum-with Inv-loop μ-loop) →
     let a = c .before .before .before .before .before .before .before .before .before .before .before .before .before .before .args in
     let x = c .sum-with .result in
-    (x ≡ withSite (a .values .now) (a .bests .now) (c .before .before .before .before .before .before .before .before .loop .i + 1)) × (x ≤ 39600000) × (c .before .before .before .before .before .before .before .before .before .sum .result ≤ x)
+    (x ≡ withSite (a .values .now) (a .bests .now) (c .before .before .before .before .before .before .before .before .loop .i + 1)) × (x ≤ 400000) × (c .before .before .before .before .before .before .before .before .before .sum .result ≤ x)
 summed c =
     let a = c .before .before .before .before .before .before .before .before .before .before .before .before .before .before .args in
     let p = c .before .before .before .before .before .before .before .before .before .before .before .before .before .before .pre in

@@ -12,7 +12,7 @@ use Rattle.free_rounds.proofs.sums.sum.Statement.{statement}
 use Rattle.free_rounds.proofs.sums.sum.Tie as tie
 
 abbrev Inv-loop : tie.InvT-loop
-Inv-loop bests total₀ s₀ s-end total s = (s ≤ s-end) × (s-end ≡ length bests) × (total ≡ sumOf s (at bests)) × (total ≤ s * 99000)
+Inv-loop bests total₀ s₀ s-end total s = (s ≤ s-end) × (s-end ≡ length bests) × (total ≡ sumOf s (at bests)) × (total ≤ s * 1000)
 
 abbrev μ-loop : tie.MeasureT-loop
 μ-loop bests total₀ s₀ s-end total s = s-end - s

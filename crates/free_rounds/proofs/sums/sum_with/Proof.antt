@@ -1,68 +1,87 @@
 -- `free_rounds::sums::sum_with` meets its contract. Assumes nothing.
 use borrow.Author.Needs.{needs}
 use mathlib.Core.Path.{_≡_, refl, _∙_}
-use Prim.Native.Nat.{_≤_, _-_, _*_, max}
+use Prim.Native.Nat.{_≤_, _-_, _+_, max}
 use native.Mathlib.Omega.{arith}
 use lib.ListN.{length}
 use Rattle.counting.specs.Words.{sumOf}
 use Rattle.counting.proofs.Sums.{sum-end}
 use Rattle.counting.specs.Lists.{at}
-use Rattle.free_rounds.proofs.Turns.{sum-turn}
+use Rattle.free_rounds.proofs.Turns.{part-ready, part-turn}
 use Rattle.free_rounds.proofs.sums.sum_with.Statement.{statement}
 use Rattle.free_rounds.proofs.sums.sum_with.Tie as tie
 
 abbrev Inv-loop : tie.InvT-loop
-Inv-loop bests row raised₀ s₀ s-end raised s =
-    (s ≤ s-end) × (s-end ≡ length bests) × (raised ≡ sumOf s (λ t. max (at bests t) (at row t))) × (raised ≤ s * 99000)
+Inv-loop bests row n raised₀ from₀ raised from =
+    (from ≤ n) × (n ≡ length bests) × (raised ≡ sumOf from (λ s. max (at bests s) (at row s)))
 
 abbrev μ-loop : tie.MeasureT-loop
-μ-loop bests row raised₀ s₀ s-end raised s = s-end - s
+μ-loop bests row n raised₀ from₀ raised from = n - from
 
 loop-holds : tie.Need-loop-holds Inv-loop μ-loop
-loop-holds c = (search needs, refl, refl, search needs)
+loop-holds c = (search needs, refl, refl)
 
-mul-greater : tie.Need-mul-greater Inv-loop μ-loop
-mul-greater c = search needs
+part-end-requires : tie.Need-part-end-requires Inv-loop μ-loop
+part-end-requires c κs = search needs
 
-shared-slice-read-greater : tie.Need-shared-slice-read-greater Inv-loop μ-loop
-shared-slice-read-greater c = search needs
+mul-part : tie.Need-mul-part Inv-loop μ-loop
+mul-part c = search needs
 
-mul-greater-2 : tie.Need-mul-greater-2 Inv-loop μ-loop
-mul-greater-2 c = search needs
+sub-part : tie.Need-sub-part Inv-loop μ-loop
+sub-part c = search needs
 
-shared-slice-read-greater-2 : tie.Need-shared-slice-read-greater-2 Inv-loop μ-loop
-shared-slice-read-greater-2 c = search needs
+part-part-start : tie.Need-part-part-start Inv-loop μ-loop
+part-part-start c = search needs
 
-greater-requires : tie.Need-greater-requires Inv-loop μ-loop
-greater-requires c κs = search needs
+part-part-end : tie.Need-part-part-end Inv-loop μ-loop
+part-part-end c = search needs
+
+mul-part-2 : tie.Need-mul-part-2 Inv-loop μ-loop
+mul-part-2 c = search needs
+
+sub-part-2 : tie.Need-sub-part-2 Inv-loop μ-loop
+sub-part-2 c = search needs
+
+part-part-start-2 : tie.Need-part-part-start-2 Inv-loop μ-loop
+part-part-start-2 c = search needs
+
+part-part-end-2 : tie.Need-part-part-end-2 Inv-loop μ-loop
+part-part-end-2 c = search needs
+
+part-requires : tie.Need-part-requires Inv-loop μ-loop
+part-requires c κs =
+    let a = c .before .before .before .before .before .before .before .args in
+    part-ready (c .before .before .before .before .loop .from) _ (a .bests .now) (a .row .now) (c .before .before .before .before .before .before .before .pre) (c .before .before .part-end .ensures)
 
 wide-requires : tie.Need-wide-requires Inv-loop μ-loop
 wide-requires c κs = search needs
 
-add-raised : tie.Need-add-raised Inv-loop μ-loop
-add-raised c =
-    let l = c .before .before .before .before .before .loop in
-    let p = c .before .before .before .before .before .before .before .before .pre in
-    omega (arith, c .wide .ensures, c .before .greater .ensures, p .small-bests (l .s), p .small (l .s), p .few)
+-- after a part: the streets up to its end are summed, which is not great
+summed : (c : tie.After-wide Inv-loop μ-loop) →
+    let a = c .before .before .before .before .before .before .before .before .before .args in
+    let x = c .before .before .before .before .before .before .loop .raised + c .wide .result in
+    (x ≡ sumOf (c .before .before .before .before .part-end .result) (λ s. max (at (a .bests .now) s) (at (a .row .now) s))) × (x ≤ 400000)
+summed c =
+    let a = c .before .before .before .before .before .before .before .before .before .args in
+    let p = c .before .before .before .before .before .before .before .before .before .pre in
+    let l = c .before .before .before .before .before .before .loop in
+    part-turn (l .from) _ (a .bests .now) (a .row .now) p (c .before .before .before .before .part-end .ensures) (l .raised) _ (omega arith) (l .inv .2)
+    (c .wide .ensures ∙ c .before .part .ensures)
 
-add-s : tie.Need-add-s Inv-loop μ-loop
-add-s c = search needs
+add-raised : tie.Need-add-raised Inv-loop μ-loop
+add-raised c = let q = summed c in omega arith
 
 loop-less : tie.Need-loop-less Inv-loop μ-loop
 loop-less c = search needs
 
 loop-again : tie.Need-loop-again Inv-loop μ-loop
-loop-again c =
-    let l = c .before .before .before .before .before .loop in
-    let p = c .before .before .before .before .before .before .before .before .pre in
-    let e = c .wide .ensures ∙ c .before .greater .ensures in
-    (omega arith, refl, sum-turn _ (l .s) _ _ (l .inv .2) e, omega (arith, e, p .small-bests (l .s), p .small (l .s)))
+loop-again c = (search needs, refl, summed c .0)
 
 returns : tie.Need-returns Inv-loop μ-loop
 returns c =
     let l = c .before .loop in
     let a = c .before .before .before .before .args in
-    sum-end (λ s. max (at (a .bests .now) s) (at (a .row .now) s)) (l .s) (length (a .bests .now)) _ (omega arith) (omega arith) (l .inv .2)
+    sum-end (λ s. max (at (a .bests .now) s) (at (a .row .now) s)) (l .from) (length (a .bests .now)) _ (omega arith) (omega arith) (l .inv .2)
 
 pub sum-with-spec : {M : Type 1} → statement M
 sum-with-spec =
@@ -71,14 +90,18 @@ sum-with-spec =
     Inv-loop
     μ-loop
     loop-holds
-    mul-greater
-    shared-slice-read-greater
-    mul-greater-2
-    shared-slice-read-greater-2
-    greater-requires
+    part-end-requires
+    mul-part
+    sub-part
+    part-part-start
+    part-part-end
+    mul-part-2
+    sub-part-2
+    part-part-start-2
+    part-part-end-2
+    part-requires
     wide-requires
     add-raised
-    add-s
     loop-less
     loop-again
     returns)

@@ -11,16 +11,21 @@ use Rattle.survey.proofs.check.rows_refusal.Statement.{statement}
 use Rattle.survey.proofs.check.rows_refusal.Tie as tie
 
 abbrev Inv-loop : tie.InvT-loop
-Inv-loop n m rows i₀ i = (i ≤ n) × (firstOf i (streetRefusal m rows) ≡ 0)
+Inv-loop n m rows bits i₀ i = (i ≤ n) × (firstOf i (streetRefusal m rows) ≡ 0)
 
 abbrev μ-loop : tie.MeasureT-loop
-μ-loop n m rows i₀ i = n - i
+μ-loop n m rows bits i₀ i = n - i
+
+site-bits-requires : tie.Need-site-bits-requires Inv-loop μ-loop
+site-bits-requires c κs = search needs
 
 loop-holds : tie.Need-loop-holds Inv-loop μ-loop
 loop-holds c = search loop
 
 street-refusal-requires : tie.Need-street-refusal-requires Inv-loop μ-loop
-street-refusal-requires c κs = omega (arith, row-within (c .before .before .before .args .n) (c .before .before .before .args .m) (c .before .loop .i) (omega arith))
+street-refusal-requires c κs =
+    let a = c .before .before .before .before .before .args in
+    (omega (arith, row-within (a .n) (a .m) (c .before .before .loop .i) (omega arith)), (omega arith, c .before .before .before .site-bits .ensures))
 
 returns : tie.Need-returns Inv-loop μ-loop
 returns c = search loop
@@ -43,6 +48,7 @@ rows-refusal-spec =
     (tie.spec
     Inv-loop
     μ-loop
+    site-bits-requires
     loop-holds
     street-refusal-requires
     returns

@@ -1,8 +1,6 @@
 -- `survey::check::street_refusal` meets its contract. Assumes nothing.
 use borrow.Author.Needs.{needs}
-use mathlib.Core.Path.{ap, _∙_}
-use mathlib.Core.List.{List}
-use Prim.Native.Nat.{ℕ}
+use mathlib.Core.Path.{sym, ap, _∙_}
 use Rattle.survey.specs.Refusals.{rowRefusal}
 use Rattle.survey.proofs.Laws.{row-part}
 use Rattle.survey.proofs.check.street_refusal.Statement.{statement}
@@ -14,22 +12,31 @@ mul-from c = search needs
 add-to : tie.Need-add-to
 add-to c = search needs
 
-sub-row-refusal : tie.Need-sub-row-refusal
-sub-row-refusal c = search needs
+sub-row : tie.Need-sub-row
+sub-row c = search needs
 
-part-row-refusal-start : tie.Need-part-row-refusal-start
-part-row-refusal-start c = search needs
+part-row-start : tie.Need-part-row-start
+part-row-start c = search needs
 
-part-row-refusal-end : tie.Need-part-row-refusal-end
-part-row-refusal-end c = search needs
+part-row-end : tie.Need-part-row-end
+part-row-end c = search needs
+
+is-sound-requires : tie.Need-is-sound-requires
+is-sound-requires c κs = search needs
+
+returns : tie.Need-returns
+returns c =
+    let a = c .before .before .before .before .args in
+    let p = c .before .before .before .before .pre in
+    sym (ap (rowRefusal (a .m)) (sym (row-part (a .m) (a .rows .now) (a .i))) ∙ c .before .is-sound .ensures (a .m) (p .1 .1) (c .if1 .taken))
 
 row-refusal-requires : tie.Need-row-refusal-requires
 row-refusal-requires c κs = search needs
 
-returns : tie.Need-returns
-returns c =
-    let a = c .before .before .before .args in
-    c .row-refusal .ensures ∙ ap (λ (row : List ℕ). rowRefusal (a .m) row) (row-part (a .m) (a .rows .now) (a .i))
+returns-2 : tie.Need-returns-2
+returns-2 c =
+    let a = c .before .before .before .before .before .args in
+    c .row-refusal .ensures ∙ ap (rowRefusal (a .m)) (row-part (a .m) (a .rows .now) (a .i))
 
 pub street-refusal-spec : {M : Type 1} → statement M
 street-refusal-spec =
@@ -37,8 +44,10 @@ street-refusal-spec =
     (tie.spec
     mul-from
     add-to
-    sub-row-refusal
-    part-row-refusal-start
-    part-row-refusal-end
+    sub-row
+    part-row-start
+    part-row-end
+    is-sound-requires
+    returns
     row-refusal-requires
-    returns)
+    returns-2)

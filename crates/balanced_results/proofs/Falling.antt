@@ -1,0 +1,50 @@
+-- A survey's values fall with the places, so they never rise along a line of streets that are ordered by place.
+-- Assumes nothing.
+use mathlib.Core.Path.{_≡_}
+use mathlib.Core.Bool.{true}
+use mathlib.Core.List.{List}
+use Prim.Native.Nat.{ℕ, _*_, _≤_, _<_}
+use native.Mathlib.Omega.{arith}
+use lib.ListN.{length, drop, length-take}
+use Rattle.counting.specs.Lists.{at}
+use Rattle.counting.proofs.Sums.{has-at}
+use Rattle.survey.specs.Rows.{rowOf, rankedPart, placeOf, scoreAt, value}
+use Rattle.survey.specs.Accepted.{Accepted}
+use Rattle.survey.proofs.Lists.{place-most, score-later, ranked-length}
+use Rattle.survey.proofs.Places.{score-none}
+use Rattle.balanced_plan.specs.Rounds.{ordered}
+use Rattle.balanced_plan.proofs.Keys.{place-falls}
+use Rattle.balanced_plan.proofs.Ordered.{ordered-street, ordered-rising, rising-at}
+use Rattle.balanced_rounds.specs.Lines.{Orders, Falls, Falling}
+use Rattle.balanced_results.specs.Plans.{rowKey, FallsByPlace}
+
+module _ (n m : ℕ) (scores rows : List ℕ) (ok : Accepted n m scores rows) where
+  -- the key puts first a street that scores no less
+  pub key-falls : (a s t : ℕ) → s < n → t < n → rowKey m rows a s ≤ rowKey m rows a t → value m scores rows t a ≤ value m scores rows s a
+  key-falls a s t l h =
+      let row : List ℕ = rowOf m rows t in
+      let high : placeOf row a ≤ m = omega (arith, place-most (rankedPart row) a, ranked-length row, length-take m (drop (t * m) rows)) in
+      place-falls (λ u b. placeOf (rowOf m rows u) b) (scoreAt scores) m (score-later scores (ok .sound-scores)) (score-none scores) a s t high
+
+  -- and so do the values of its table, for a buffer of n streets
+  pub table-falls : (v : ℕ → ℕ → ℕ) (j : ℕ) → j ≡ n → ((s a : ℕ) → s < n → a ≤ m → v s a ≡ value m scores rows s a) → FallsByPlace v j m rows
+  table-falls v j e same a s t l h k first =
+      omega (arith, same s a (omega arith) l, same t a (omega arith) l, key-falls a s t (omega arith) (omega arith) first)
+
+-- and along lines that are ordered by those keys they never rise
+pub lines-fall : (v key : ℕ → ℕ → ℕ) (n m : ℕ) (rows orders : List ℕ) → ((a s : ℕ) → a ≤ m → s < n → key a s ≡ rowKey m rows a s)
+    → Orders key n m orders → FallsByPlace v n m rows → Falling v n m orders
+lines-fall v key n m rows orders right o falls a l = rw (o a l) along
+  where
+    line : List ℕ
+    line = ordered (key a) (λ s. true) n
+
+    street : (i : ℕ) → i < length line → at line i < n
+    street i h = ordered-street (key a) (λ s. true) n (at line i) (has-at line i h) .0
+
+    along : Falls (λ s. v s a) line
+    along i j before h =
+        let s : at line i < n = street i (omega arith) in
+        let t : at line j < n = street j h in
+        let rise : key a (at line i) ≤ key a (at line j) = rising-at (key a) line (ordered-rising (key a) (λ s. true) n) i j before h in
+        falls a (at line i) (at line j) l s t (omega (arith, right a (at line i) l s, right a (at line j) l t))

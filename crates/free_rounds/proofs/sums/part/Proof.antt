@@ -1,0 +1,79 @@
+-- `free_rounds::sums::part` meets its contract. Assumes nothing.
+use borrow.Author.Needs.{needs}
+use mathlib.Core.Path.{_≡_, refl}
+use Prim.Native.Nat.{_≤_, _-_, _*_, max}
+use native.Mathlib.Omega.{arith}
+use lib.ListN.{length}
+use Rattle.counting.specs.Words.{sumOf}
+use Rattle.counting.proofs.Sums.{sum-end}
+use Rattle.counting.specs.Lists.{at}
+use Rattle.free_rounds.proofs.Turns.{sum-turn}
+use Rattle.free_rounds.proofs.sums.part.Statement.{statement}
+use Rattle.free_rounds.proofs.sums.part.Tie as tie
+
+abbrev Inv-loop : tie.InvT-loop
+Inv-loop bests row sum₀ s₀ s-end sum s =
+    (s ≤ s-end) × (s-end ≡ length bests) × (sum ≡ sumOf s (λ t. max (at bests t) (at row t))) × (sum ≤ s * 1000)
+
+abbrev μ-loop : tie.MeasureT-loop
+μ-loop bests row sum₀ s₀ s-end sum s = s-end - s
+
+loop-holds : tie.Need-loop-holds Inv-loop μ-loop
+loop-holds c = (search needs, refl, refl, search needs)
+
+mul-greater : tie.Need-mul-greater Inv-loop μ-loop
+mul-greater c = search needs
+
+shared-slice-read-greater : tie.Need-shared-slice-read-greater Inv-loop μ-loop
+shared-slice-read-greater c = search needs
+
+mul-greater-2 : tie.Need-mul-greater-2 Inv-loop μ-loop
+mul-greater-2 c = search needs
+
+shared-slice-read-greater-2 : tie.Need-shared-slice-read-greater-2 Inv-loop μ-loop
+shared-slice-read-greater-2 c = search needs
+
+greater-requires : tie.Need-greater-requires Inv-loop μ-loop
+greater-requires c κs = search needs
+
+add-sum : tie.Need-add-sum Inv-loop μ-loop
+add-sum c =
+    let l = c .before .before .before .before .loop in
+    let p = c .before .before .before .before .before .before .before .pre in
+    omega (arith, c .greater .ensures, p .0 .small-bests (l .s), p .0 .small (l .s), p .1)
+
+add-s : tie.Need-add-s Inv-loop μ-loop
+add-s c = search needs
+
+loop-less : tie.Need-loop-less Inv-loop μ-loop
+loop-less c = search needs
+
+loop-again : tie.Need-loop-again Inv-loop μ-loop
+loop-again c =
+    let l = c .before .before .before .before .loop in
+    let p = c .before .before .before .before .before .before .before .pre in
+    (omega arith, refl, sum-turn _ (l .s) _ _ (l .inv .2) (c .greater .ensures), omega (arith, c .greater .ensures, p .0 .small-bests (l .s), p .0 .small (l .s)))
+
+returns : tie.Need-returns Inv-loop μ-loop
+returns c =
+    let l = c .before .loop in
+    let a = c .before .before .before .before .args in
+    sum-end (λ s. max (at (a .bests .now) s) (at (a .row .now) s)) (l .s) (length (a .bests .now)) _ (omega arith) (omega arith) (l .inv .2)
+
+pub part-spec : {M : Type 1} → statement M
+part-spec =
+    tie.close
+    (tie.spec
+    Inv-loop
+    μ-loop
+    loop-holds
+    mul-greater
+    shared-slice-read-greater
+    mul-greater-2
+    shared-slice-read-greater-2
+    greater-requires
+    add-sum
+    add-s
+    loop-less
+    loop-again
+    returns)
