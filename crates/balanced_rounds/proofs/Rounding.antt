@@ -6,7 +6,6 @@ use mathlib.Core.Bool.{Bool, true, false, not, _&&_, and-eq-true-iff}
 use mathlib.Core.List.{List, [], _∷_, _++_}
 use mathlib.Core.Logic.{by-cases}
 use Prim.Native.Nat.{ℕ, zero, suc, _+_, _*_, _-_, _≤_, _<_}
-use native.Mathlib.Nat.{mul-le-mul}
 use native.Mathlib.Numerals.{add-one}
 use native.Mathlib.Decide.{decLt}
 use native.Mathlib.Omega.{arith}
@@ -169,10 +168,6 @@ pub rounds-more : (v key : ℕ → ℕ → ℕ) (n m : ℕ) (q : ℕ → ℕ) (i
 unfolding rounds
 rounds-more v key n m q i old new before step =
     rw add-one (subst (λ (state : plan.State). stateOf n new ≡ taken key (q i) state (choice v key m (q i) state)) before step)
-
--- the lines of all sites are few
-pub lines-small : (n m : ℕ) → n ≤ 400 → m ≤ 64 → (m + 1) * n ≤ 26000
-lines-small n m few few-sites = mul-le-mul {n₁ = m + 1} {m₁ = n} {n₂ = 65} {m₂ = 400} (omega arith) few
 
 -- ---- counted another way
 -- what holds of a list holds of an equal one

@@ -5,7 +5,7 @@ use mathlib.Core.Bool.{true}
 use mathlib.Core.List.{List, [], _∷_}
 use mathlib.Core.Logic.{by-cases}
 use Prim.Native.Nat.{ℕ, zero, suc, _+_, _*_, _-_, _≤_, _<_}
-use native.Mathlib.Nat.{mul-le-mul, mul-le-mul-left, mul-one, mul-zero}
+use native.Mathlib.Nat.{mul-le-mul-left, mul-one, mul-zero}
 use native.Mathlib.Numerals.{add-one}
 use native.Mathlib.Decide.{ℕ-discrete}
 use native.Mathlib.Omega.{arith}
@@ -17,6 +17,7 @@ use Rattle.counting.proofs.Listed.{only-has, has-take, sum-even}
 use Rattle.counting.proofs.Membership.{sum-le}
 use Rattle.counting.proofs.Sums.{has-index}
 use Rattle.counting.proofs.Tables.{in-rows}
+use Rattle.survey.proofs.BySite.{table-small}
 use Rattle.values.specs.Table.{Table}
 use Rattle.balanced_plan.specs.Rounds.{free, give}
 use Rattle.balanced_rounds.specs.Lines.{picked, Falls, Stepped}
@@ -166,5 +167,5 @@ module _ (a : ℕ) (line before start : List ℕ) (q : ℕ) where
 pub cell-fits : (n m : ℕ) (values : List ℕ) → Table n m values → (s a : ℕ) → s < n → a ≤ m → (s * (m + 1) + a < length values) × (length values ≤ 26000)
 cell-fits n m values t s a l o = (
   omega (arith, in-rows s n (m + 1) a l (omega arith), t .size),
-  omega (arith, t .size, mul-le-mul {n₁ = n} {m₁ = m + 1} {n₂ = 400} {m₂ = 65} (t .few-streets) (omega (arith, t .few-sites))),
+  omega (arith, t .size, table-small n m (t .few-streets) (t .few-sites)),
 )

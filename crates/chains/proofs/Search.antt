@@ -9,7 +9,7 @@ use native.Mathlib.Decide.{decLt}
 use native.Mathlib.Omega.{arith}
 use lib.ListN.{length}
 use Rattle.counting.specs.Lists.{at, cell}
-use Rattle.counting.proofs.Sums.{at-past}
+use Rattle.counting.proofs.Sums.{at-past, at-within}
 use Rattle.counting.proofs.Tables.{in-rows}
 use Rattle.division.specs.Shares.{share}
 use Rattle.division.specs.Town.{tail}
@@ -109,7 +109,7 @@ module _ (values shares division : List ℕ) (w : ℕ) where
       → Priced (cell values w) (at low) (tail shares) division
   priced k sites fit nobody low prices vias h r done none t l b held =
       let has : 0 < at shares b = omega (arith, share-tail shares nobody b) in
-      let o : b < w = by-cases (decLt b w) (λ q. q) (λ q. absurd (omega (arith, at-past shares b (omega arith)))) in
+      let o : b < w = omega (arith, at-within shares b has) in
       let a : ℕ = at division t in
       let home = h .layers k (omega arith) a (sites t l) in
       let there = h .layers k (omega arith) b o in

@@ -1,16 +1,14 @@
 -- The best division by the numbers is the best division by the sites: what the passes over the small table are lent, and what they give back.
 -- Assumes nothing.
 use mathlib.Core.Path.{_≡_, sym, ap, _∙_}
-use mathlib.Core.Logic.{by-cases}
 use mathlib.Core.List.{List, map}
 use Prim.Native.Nat.{ℕ, _*_, _≤_, _<_}
-use native.Mathlib.Decide.{decLt}
 use native.Mathlib.Nat.{mul-le-mul}
 use native.Mathlib.Omega.{arith}
 use lib.ListN.{length, length-map, take, replicate}
 use lib.Seq.{length-take-le}
 use Rattle.counting.specs.Lists.{at, cell}
-use Rattle.counting.proofs.Sums.{at-past}
+use Rattle.counting.proofs.Sums.{at-within}
 use Rattle.counting.proofs.Parts.{front-length, front-blank}
 use Rattle.division.specs.Shares.{share, InShares, divisionTotal}
 use Rattle.division.specs.Divide.{divide}
@@ -20,10 +18,6 @@ use Rattle.division.proofs.Best.{divide-in, divide-length, divide-same}
 use Rattle.division.proofs.Towns.{share-tail, sited}
 use Rattle.division.proofs.Renumbered.{Onto, total-map, in-map, sum-map, divide-map}
 use Rattle.compact.specs.Numbered.{Numbered, Columns}
-
--- only a site of the list can have something there
-inside : (list : List ℕ) (a : ℕ) → 0 < at list a → a < length list
-inside list a h = by-cases (decLt a (length list)) (λ l. l) (λ n. absurd (omega (arith, at-past list a (omega arith))))
 
 module _ (values shares : List ℕ) (n : ℕ) (town : Town values shares n) (sites numbers few : List ℕ)
     (h : Numbered shares sites numbers few (length shares) (length few)) where
@@ -36,18 +30,18 @@ module _ (values shares : List ℕ) (n : ℕ) (town : Town values shares n) (sit
   there a l =
       let here : share (tail shares) a ≡ at shares a = share-tail shares (town .nobody) a in
       let some : 0 < at shares a = omega arith in
-      let (u, e) = h .number a (inside shares a some) some in
+      let (u, e) = h .number a (at-within shares a some) some in
       (share-tail few no-share (at numbers a) ∙ h .shared (at numbers a) u ∙ ap (at shares) e ∙ sym here, e)
 
   back : Onto (at sites) (at numbers) (tail few) (tail shares)
   back x l =
       let here : share (tail few) x ≡ at few x = share-tail few no-share x in
-      let less : x < length few = inside few x (omega arith) in
+      let less : x < length few = at-within few x (omega arith) in
       (share-tail shares (town .nobody) (at sites x) ∙ sym (h .shared x less) ∙ sym here, h .back x less)
 
   -- only a number can have a small share
   numbered : (x : ℕ) → 0 < share (tail few) x → x < length few
-  numbered x l = inside few x (omega (arith, share-tail few no-share x))
+  numbered x l = at-within few x (omega (arith, share-tail few no-share x))
 
   -- the small table is a town
   pub few-town : (table : List ℕ) → length table ≡ n * length few → Columns values (length shares) sites table (length few) n → Town table few n

@@ -176,7 +176,7 @@ unfolding _unless_
 unless-zero x true h e = refl
 unless-zero x false h e = absurd (positive x h e)
 
-or-false : (a b : Bool) → a || b ≡ false → (a ≡ false) × (b ≡ false)
+pub or-false : (a b : Bool) → a || b ≡ false → (a ≡ false) × (b ≡ false)
 or-false true b e = absurd (true≢false e)
 or-false false b e = (refl, e)
 

@@ -6,7 +6,7 @@ use mathlib.Core.Logic.{_≢_, ⊎-elim, by-cases}
 use mathlib.Core.List.{List, [], _∷_, _++_}
 use Prim.Native.Nat.{ℕ, zero, suc, _+_, _*_, _≤_, _<_}
 use native.Mathlib.Nat.{le-antisymm, eq-or-lt-of-le, le-of-suc-le-suc}
-use native.Mathlib.Decide.{ℕ-discrete}
+use native.Mathlib.Decide.{ℕ-discrete, decLt}
 use native.Mathlib.Numerals.{add-one}
 use native.Mathlib.Omega.{arith}
 use lib.Dec.{eqb}
@@ -92,6 +92,10 @@ sum-end f i n x a b e = rw (le-antisymm b a) at e
 -- past the end of a list stands 0
 pub at-past : (list : List ℕ) (i : ℕ) → length list ≤ i → at list i ≡ 0
 at-past list i l = List·getD-eq-default list 0 l
+
+-- only an index within a list has a number above 0
+pub at-within : (list : List ℕ) (i : ℕ) → 0 < at list i → i < length list
+at-within list i h = by-cases (decLt i (length list)) (λ l. l) (λ n. absurd (omega (arith, at-past list i (omega arith))))
 
 -- functions that agree make the same list
 pub listOf-same : (n : ℕ) (f g : ℕ → ℕ) → ((i : ℕ) → i < n → f i ≡ g i) → listOf n f ≡ listOf n g

@@ -3,7 +3,7 @@
 use mathlib.Core.Path.{_≡_, sym, ap, _∙_}
 use mathlib.Core.List.{List, _++_}
 use Prim.Native.Nat.{ℕ, _+_, _*_, _/_, _%_, _≤_, _<_}
-use native.Mathlib.Nat.{mul-le-mul, div-add-mod', mod-lt, div-lt-iff-lt-mul}
+use native.Mathlib.Nat.{div-add-mod', mod-lt, div-lt-iff-lt-mul}
 use native.Mathlib.Omega.{arith}
 use native.Mathlib.Decide.{decLt}
 use lib.ListN.{length, take, replicate}
@@ -13,7 +13,7 @@ use Rattle.counting.proofs.Parts.{front-length, front-blank, back-is, back-room
 use Rattle.survey.specs.Rows.{scoreAt, value}
 use Rattle.survey.specs.Accepted.{Accepted}
 use Rattle.survey.proofs.Places.{score-none, valued-bound}
-use Rattle.survey.proofs.BySite.{Filled, filled-none, filled-all}
+use Rattle.survey.proofs.BySite.{table-small, Filled, filled-none, filled-all}
 use Rattle.site_values.specs.Table.{Blank, Valued, Table, siteValue}
 
 -- a blank table holds the scores of no street
@@ -28,7 +28,7 @@ table-end n m scores rows values s l p = record { size = p .size; right = λ t a
 module _ (n m : ℕ) (scores rows : List ℕ) (ok : Accepted n m scores rows) where
   -- the table fits its array
   pub table-fits : (m + 1) * n ≤ 26000
-  table-fits = mul-le-mul {n₁ = m + 1} {m₁ = n} {n₂ = 65} {m₂ = 400} (omega (arith, ok .few-sites)) (ok .few-streets)
+  table-fits = table-small n m (ok .few-streets) (ok .few-sites)
 
   -- before it is filled
   pub table-blank : Blank n m (take ((m + 1) * n) (replicate 26000 0))

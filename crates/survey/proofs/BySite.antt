@@ -15,6 +15,7 @@ use Rattle.counting.proofs.Sums.{take-next}
 use Rattle.counting.proofs.Tables.{row-within, in-rows, rows-apart}
 use Rattle.counting.proofs.Parts.{part, part-length}
 use Rattle.survey.specs.Rows.{rowOf, rankedPart, placeIn, placeOf}
+use Rattle.survey.specs.Refusals.{mostStreets, mostSites}
 use Rattle.survey.specs.Accepted.{SoundRow, Accepted}
 use Rattle.survey.specs.BySite.{Ranked, Room, Unread, Entered}
 use Rattle.survey.proofs.Laws.{ranked-stop, ranked-more, ranked-all, row-part}
@@ -23,6 +24,10 @@ use Rattle.survey.proofs.Places.{place-none, place-new, place-old}
 -- an accepted survey's rows rank the sites
 pub ranked : (n m : ℕ) (scores rows : List ℕ) → Accepted n m scores rows → Ranked n m rows
 ranked n m scores rows ok = record { few-streets = ok .few-streets; few-sites = ok .few-sites; rows-fit = ok .rows-fit; sound-rows = ok .sound-rows }
+
+-- a table with an entry for each street and each of the sites 0, 1, .., m is not long
+pub table-small : (n m : ℕ) → n ≤ mostStreets → m ≤ mostSites → (m + 1) * n ≤ 26000
+table-small n m few few-sites = mul-le-mul {n₁ = m + 1} {m₁ = n} {n₂ = 65} {m₂ = 400} (omega arith) few
 
 -- ---- one street
 -- the entries that a list gives the street s
@@ -52,9 +57,9 @@ module _ {f : ℕ → ℕ} {n s : ℕ} {row before table : List ℕ} {j : ℕ} (
   pub passed-room : j < length row → at row j * n + s < length table
   passed-room l = omega (arith, in-rows (at row j) (length row + 1) n s (omega (arith, ok .named j l)) (room .street), room .size, p .size)
 
-  -- a table is not long
+  -- the table is not long
   pub passed-size : length table ≤ 26000
-  passed-size = omega (arith, mul-le-mul {n₁ = length row + 1} {m₁ = n} {n₂ = 65} {m₂ = 400} (omega (arith, room .few-sites)) (room .few-streets), room .size, p .size)
+  passed-size = omega (arith, table-small n (length row) (room .few-streets) (room .few-sites), room .size, p .size)
 
   -- a site gets the entry of the next place, and every other site keeps its own
   own-more : (list : List ℕ) (b x : ℕ) → x ≡ f (length list + 1) → has b list ≡ false → b * n + s < length table

@@ -1,6 +1,6 @@
 -- Laws of the sites' limits: where they start, how they fall, and that they hold while streets move.
 -- Assumes nothing.
-use mathlib.Core.Path.{_≡_, refl, sym, ap, _∙_}
+use mathlib.Core.Path.{_≡_}
 use mathlib.Core.Logic.{_≢_, by-cases}
 use mathlib.Core.List.{List}
 use Prim.Native.Nat.{ℕ, _+_, _-_, _≤_, _<_}
@@ -8,29 +8,19 @@ use native.Mathlib.Decide.{ℕ-discrete, decLt}
 use native.Mathlib.Omega.{arith}
 use lib.ListN.{length, set, length-set}
 use lib.Seq.{getD-set-same, getD-set-other}
-use borrow.Author.Count.{below-more}
 use Rattle.counting.specs.Lists.{at}
+use Rattle.counting.specs.Buffers.{Mapped}
 use Rattle.counting.proofs.Sums.{at-past}
 use Rattle.ties.specs.Queue.{Later}
 use Rattle.ties.specs.Limits.{Limits, Raised, LastAt}
 
--- a list whose numbers are all n has no greater number
-all-small : (limits : List ℕ) (n : ℕ) → ((x : ℕ) → x < length limits → at limits x ≡ n) → (x : ℕ) → at limits x ≤ n
-all-small limits n all x =
-    by-cases (decLt x (length limits)) (λ l. omega (arith, all x l)) (λ m. omega (arith, at-past limits x (omega arith)))
-
--- one limit more is n
-pub all-more : (limits : List ℕ) (i n : ℕ) → i < length limits → ((x : ℕ) → x < i → at limits x ≡ n) → (x : ℕ) → x < i + 1 → at (set limits i n) x ≡ n
-all-more limits i n l all =
-    below-more (λ x. at (set limits i n) x ≡ n) i (λ x m. getD-set-other limits i x n 0 (λ q. omega arith) ∙ all x m) (getD-set-same limits i n 0 l)
-
 -- the number of streets is a limit of every site
-pub limits-start : {L : ℕ → Type 0} (s : ℕ) (D limits : List ℕ) → ((x : ℕ) → x < length limits → at limits x ≡ length D)
-    → ((t : ℕ) → t < length D → at D t < length limits) → Limits L s D limits
-limits-start s D limits all sited =
+pub limits-start : {L : ℕ → Type 0} (s : ℕ) (D blank limits : List ℕ) → Mapped (λ x limit. length D) blank limits (length blank)
+    → ((t : ℕ) → t < length D → at D t < length blank) → Limits L s D limits
+limits-start s D blank limits h sited =
     record {
-      within = all-small limits (length D) all;
-      limit = λ t l m p. omega (arith, all (at D t) (sited t m));
+      within = λ x. by-cases (decLt x (length blank)) (λ l. omega (arith, h .done x l)) (λ o. omega (arith, at-past limits x (omega (arith, h .size))));
+      limit = λ t l m p. omega (arith, h .done (at D t) (sited t m));
     }
 
 module _ {L : ℕ → Type 0} {s : ℕ} {D limits : List ℕ} (h : Limits L s D limits) where

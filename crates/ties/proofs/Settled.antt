@@ -2,7 +2,7 @@
 -- the lowest site of its queue; once all streets are settled the division is the best one.
 -- Assumes nothing.
 use mathlib.Core.Path.{_≡_, refl, sym, ap, _∙_}
-use mathlib.Core.Bool.{Bool, true, false, _||_, or-true, true≢false}
+use mathlib.Core.Bool.{Bool, true, false, _||_, true≢false}
 use mathlib.Core.Logic.{_≢_, _⊎_, inl, inr, ⊎-elim, by-cases}
 use mathlib.Core.List.{List, [], _∷_}
 use Prim.Native.Nat.{ℕ, _+_, _≤_, _<_}
@@ -13,6 +13,8 @@ use lib.Dec.{ltb, eqb}
 use lib.ListN.{length, set}
 use borrow.Author.Tests.{ltb-true, ltb-false, eqb-true, eq-eqb}
 use Rattle.counting.specs.Lists.{at}
+use Rattle.counting.proofs.Refusals.{or-right, or-false}
+use Rattle.counting.proofs.Membership.{or-cases}
 use Rattle.division.specs.Shares.{share, InShares, divisionTotal}
 use Rattle.division.specs.Divide.{divide}
 use Rattle.division.specs.Town.{tail, Town}
@@ -117,29 +119,21 @@ module _ {v : ℕ → ℕ → ℕ} {d : ℕ → ℕ} {c D : List ℕ} {s : ℕ} 
         standing-step E (turned .long) same-turned total-turned (flag marks) (cut-of c (h .priced) g) (turned .before)
         (λ b y held t. let (j, m, e) = g .placed .only b y in omega (arith, turned .moved, lowest .low j m (rw e t), e)) l
 
--- sites that can be left, and the own site of the street s
+-- the sites that can be left, and the own site of the street s
 reached : List ℕ → List ℕ → ℕ → ℕ → Bool
 reached limits D s x = ltb (s + 1) (at limits x) || eqb x (at D s)
 
 reached-home : (limits D : List ℕ) (s : ℕ) → reached limits D s (at D s) ≡ true
 unfolding reached
-reached-home limits D s = rw (eq-eqb (at D s) (at D s) refl) (or-true (ltb (s + 1) (at limits (at D s))))
+reached-home limits D s = or-right (ltb (s + 1) (at limits (at D s))) (eqb (at D s) (at D s)) (eq-eqb (at D s) (at D s) refl)
 
 reached-some : (limits D : List ℕ) (s x : ℕ) → reached limits D s x ≡ true → (s + 1 < at limits x) ⊎ (x ≡ at D s)
 unfolding reached
-reached-some limits D s x e = go (ltb (s + 1) (at limits x)) (eqb x (at D s)) refl refl e
-  where
-    go : (a b : Bool) → a ≡ ltb (s + 1) (at limits x) → b ≡ eqb x (at D s) → a || b ≡ true → (s + 1 < at limits x) ⊎ (x ≡ at D s)
-    go true b p q r = inl (ltb-true _ _ (sym p))
-    go false b p q r = inr (eqb-true _ _ (sym q ∙ r))
+reached-some limits D s x e = ⊎-elim (λ t. inl (ltb-true _ _ t)) (λ t. inr (eqb-true _ _ t)) (or-cases (ltb (s + 1) (at limits x)) (eqb x (at D s)) e)
 
 reached-none : (limits D : List ℕ) (s x : ℕ) → reached limits D s x ≡ false → at limits x ≤ s + 1
 unfolding reached
-reached-none limits D s x e = go (ltb (s + 1) (at limits x)) refl e
-  where
-    go : (a : Bool) → a ≡ ltb (s + 1) (at limits x) → a || eqb x (at D s) ≡ false → at limits x ≤ s + 1
-    go true p r = absurd (true≢false r)
-    go false p r = ltb-false _ _ (sym p)
+reached-none limits D s x e = ltb-false _ _ (or-false (ltb (s + 1) (at limits x)) (eqb x (at D s)) e .0)
 
 -- the street s goes to the lowest site that it may go to and that can be left
 module _ {v : ℕ → ℕ → ℕ} {d : ℕ → ℕ} {shares limits D : List ℕ} {s b : ℕ} (h : Standing v d (tail shares) D s) (nobody : at shares 0 ≡ 0) (l : s < length D)

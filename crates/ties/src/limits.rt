@@ -6,13 +6,14 @@ ghost use mathlib.Core.Logic.{_≢_};
 ghost use Prim.Native.Nat.{ℕ, _+_, _≤_, _<_};
 ghost use lib.ListN.{length};
 ghost use Rattle.counting.specs.Lists.{at, cell};
+ghost use Rattle.counting.specs.Buffers.{Mapped};
 ghost use Rattle.division.proofs.Dual.{Tight};
 ghost use Rattle.ties.specs.Queue.{Scene};
 ghost use Rattle.ties.specs.Limits.{Leaver, Limits, Raised, LastAt};
 
 // Every limit is n.
 pub fn fill(limits: &mut [u16], n: u16)
-    ensures { λ _. ⌜ ((x : ℕ) → x < length (now (limits .entry)) → at (now (limits .exit)) x ≡ n) ⌝ }
+    ensures { λ _. ⌜ Mapped (λ x limit. n) (now (limits .entry)) (now (limits .exit)) (length (now (limits .entry))) ⌝ }
 {
     for x in 0..limits.len() {
         limits[x] = n;

@@ -3,7 +3,7 @@
 use mathlib.Core.Path.{_≡_, sym, ap, _∙_}
 use mathlib.Core.List.{List, _++_}
 use Prim.Native.Nat.{ℕ, _+_, _*_, _/_, _%_, _≤_, _<_}
-use native.Mathlib.Nat.{mul-le-mul, div-add-mod', mod-lt, div-lt-iff-lt-mul}
+use native.Mathlib.Nat.{div-add-mod', mod-lt, div-lt-iff-lt-mul}
 use native.Mathlib.Omega.{arith}
 use native.Mathlib.Decide.{decLt}
 use lib.ListN.{length, take, replicate}
@@ -13,12 +13,13 @@ use Rattle.counting.proofs.Parts.{front-length, front-blank, back-is, back-room
 use Rattle.survey.specs.Rows.{value}
 use Rattle.survey.specs.Accepted.{Accepted}
 use Rattle.survey.proofs.Places.{valued-bound}
+use Rattle.survey.proofs.BySite.{table-small}
 use Rattle.values.specs.Table.{Blank, Valued, Table, valueIn}
 
 module _ (n m : ℕ) (scores rows : List ℕ) (ok : Accepted n m scores rows) where
   -- the table fits its array
   pub table-fits : n * (m + 1) ≤ 26000
-  table-fits = mul-le-mul {n₁ = n} {m₁ = m + 1} {n₂ = 400} {m₂ = 65} (ok .few-streets) (omega (arith, ok .few-sites))
+  table-fits = omega (arith, table-small n m (ok .few-streets) (ok .few-sites))
 
   -- before it is filled
   pub table-blank : Blank n m (take (n * (m + 1)) (replicate 26000 0))

@@ -1,18 +1,18 @@
 // The table of a survey's values, filled once from scores and rows.
 ghost use mathlib.Core.Path.{_≡_};
-ghost use Prim.Native.Nat.{ℕ, _+_, _≤_};
 ghost use lib.ListN.{length};
-ghost use Rattle.counting.specs.Lists.{at};
-ghost use Rattle.survey.specs.Rows.{scoreOf, value};
+ghost use Rattle.survey.specs.Rows.{scoreAt, value};
 ghost use Rattle.survey.specs.Accepted.{SoundRow, Accepted};
+ghost use Rattle.survey.specs.BySite.{Room, Unread, Entered};
 ghost use Rattle.values.specs.Table.{Blank, Valued};
 
-// One street's values: the score at each ranked site's place. A site that is not ranked keeps its 0, so the row is read once.
+// One street's values, a table by site of this street alone: the score at each ranked site's place.
+// A site that is not ranked keeps its 0, so the row is read once.
 fn fill_row(scores: &[u16], row: &[u8], values: &mut [u32])
-    requires sound { ⌜ SoundRow (length (now row)) (now row) ⌝ }
-    requires sized { ⌜ (length (now scores) ≡ length (now row)) × (length (now values) ≡ length (now row) + 1) ⌝ }
-    requires blank { ⌜ ((a : ℕ) → at (now values) a ≡ 0) ⌝ }
-    ensures { λ _. ⌜ ((a : ℕ) → a ≤ length (now (row .entry)) → at (now (values .exit)) a ≡ scoreOf (now (scores .entry)) (now (row .entry)) a) ⌝ }
+    requires sound { ⌜ SoundRow (length (now row)) (now row) × (length (now scores) ≡ length (now row)) ⌝ }
+    requires room { ⌜ Room 1 0 (length (now row)) (now values) ⌝ }
+    requires blank { ⌜ Unread (scoreAt (now scores)) 1 0 (length (now row)) (now values) ⌝ }
+    ensures { λ _. ⌜ Entered (scoreAt (now (scores .entry))) 1 0 (now (row .entry)) (now (values .entry)) (now (values .exit)) ⌝ }
 {
     for j in 0..row.len() {
         let b = row[j];

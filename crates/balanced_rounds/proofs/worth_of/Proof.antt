@@ -9,8 +9,9 @@ use Rattle.values.specs.Table.{valueIn}
 use mathlib.Core.List.{List}
 use Rattle.counting.proofs.Refusals.{unless-none, unless-is}
 use Rattle.survey.proofs.Laws.{row-part}
+use Rattle.survey.proofs.BySite.{table-small}
 use Rattle.balanced_rounds.specs.Lines.{picked}
-use Rattle.balanced_rounds.proofs.Rounding.{line-ends, lines-small, line-of, line-falls}
+use Rattle.balanced_rounds.proofs.Rounding.{line-ends, line-of, line-falls}
 use Rattle.balanced_rounds.proofs.worth_of.Statement.{statement}
 use Rattle.balanced_rounds.proofs.worth_of.Tie as tie
 
@@ -26,7 +27,7 @@ mul-from c =
     let p = c .before .before .before .before .before .before .pre in
     let ends = line-ends (length (a .division .now)) (a .m) (a .orders .now) (p .0 .1) (a .a) (p .1 .1) in
     let size = p .0 .1 .size in
-    let few = lines-small (length (a .division .now)) (a .m) (p .0 .0 .few-streets) (p .0 .0 .few-sites) in
+    let few = table-small (length (a .division .now)) (a .m) (p .0 .0 .few-streets) (p .0 .0 .few-sites) in
     omega (arith, ends, size, few)
 
 add-to : tie.Need-add-to
@@ -35,7 +36,7 @@ add-to c =
     let p = c .before .before .before .before .before .before .pre in
     let ends = line-ends (length (a .division .now)) (a .m) (a .orders .now) (p .0 .1) (a .a) (p .1 .1) in
     let size = p .0 .1 .size in
-    let few = lines-small (length (a .division .now)) (a .m) (p .0 .0 .few-streets) (p .0 .0 .few-sites) in
+    let few = table-small (length (a .division .now)) (a .m) (p .0 .0 .few-streets) (p .0 .0 .few-sites) in
     omega (arith, ends, size, few)
 
 mul-worth : tie.Need-mul-worth
@@ -44,7 +45,7 @@ mul-worth c =
     let p = c .before .before .before .before .before .before .pre in
     let ends = line-ends (length (a .division .now)) (a .m) (a .orders .now) (p .0 .1) (a .a) (p .1 .1) in
     let size = p .0 .1 .size in
-    let few = lines-small (length (a .division .now)) (a .m) (p .0 .0 .few-streets) (p .0 .0 .few-sites) in
+    let few = table-small (length (a .division .now)) (a .m) (p .0 .0 .few-streets) (p .0 .0 .few-sites) in
     omega (arith, ends, size, few)
 
 sub-worth : tie.Need-sub-worth
@@ -59,7 +60,7 @@ part-worth-end c =
     let p = c .before .before .before .before .before .before .pre in
     let ends = line-ends (length (a .division .now)) (a .m) (a .orders .now) (p .0 .1) (a .a) (p .1 .1) in
     let size = p .0 .1 .size in
-    let few = lines-small (length (a .division .now)) (a .m) (p .0 .0 .few-streets) (p .0 .0 .few-sites) in
+    let few = table-small (length (a .division .now)) (a .m) (p .0 .0 .few-streets) (p .0 .0 .few-sites) in
     omega (arith, ends, size, few)
 
 worth-requires : tie.Need-worth-requires

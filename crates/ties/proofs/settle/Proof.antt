@@ -50,13 +50,13 @@ settle-streets-requires c κs =
     let tights = t .list-sites .last .1 .1 .1 .1 .0 in
     let ends = t .list-sites .last .1 .1 .1 .1 .1 .0 in
     let f = c .before .before .before .before .before .before .before .before .before .before .before .before .before .before .before .fill in
-    let size = f .kept .0 ∙ length-replicate {A = ℕ} 65 0 in
+    let size = f .ensures .size ∙ length-replicate {A = ℕ} 65 0 in
     let start = c .before .before .before .before .before .before .before .before .before .before .before .before .before .before .before .before .before .before .before .before .before .before .before .before .before in
     let a = start .args in
     let p = start .pre in
     let scene = scene-of (a .prices .now) (a .division .now) (p .0) (p .1 .1 .0) (p .1 .0) in
     let rows = rows-same _ (replicate 26065 0) (replicate 65 0) tights ends refl (k .1 .1 .1 .1 .0) (k .1 .1 .1 .1 .1 .0) (rows-room _ _ (p .0 .few-sites) (p .0 .few)) in
-    let limits = limits-start 0 (a .division .now) (f .last .0) (λ x l. f .ensures x (omega (arith, f .kept .0))) (λ s l. omega (arith, scene .sited s l, scene .few-sites, size)) in
+    let limits = limits-start 0 (a .division .now) (replicate 65 0) (f .last .0) (f .ensures) (λ s l. omega (arith, scene .sited s l, scene .few-sites, length-replicate {A = ℕ} 65 0)) in
     let settled = standing-start _ _ _ _ (p .1 .0) (p .1 .1 .1 .0) in
     (p .0, (p .1 .1 .0, (p .1 .1 .1 .1, ((rows, t .list-sites .ensures), (settled, (omega (arith, scene .few-sites, size), limits))))))
 

@@ -1,11 +1,8 @@
 -- `ties::settle_street` meets its contract. Assumes nothing.
 use borrow.Author.Needs.{needs}
-use mathlib.Core.Path.{_≡_, _∙_}
-use mathlib.Core.Logic.{_≢_}
-use Prim.Native.Nat.{_≤_, _<_}
+use mathlib.Core.Path.{_∙_}
 use native.Mathlib.Numerals.{lt-of-le-of-ne}
 use native.Mathlib.Omega.{arith}
-use Rattle.counting.specs.Lists.{at}
 use Rattle.ties.proofs.Limiting.{last-street}
 use Rattle.ties.proofs.Settled.{scene-of, standing-still, standing-swapped, listed-swapped, limits-swapped}
 use Rattle.ties.proofs.settle_street.Statement.{statement}

@@ -1,30 +1,34 @@
 -- `values::fill_row` meets its contract. Assumes nothing.
 use borrow.Author.Needs.{needs}
-use mathlib.Core.Path.{_≡_, refl}
+use mathlib.Core.Path.{_≡_, refl, sym}
 use Prim.Native.Nat.{_≤_, _-_}
 use native.Mathlib.Omega.{arith}
 use lib.ListN.{length}
-use Rattle.values.proofs.Filling.{Passed, passed-start, passed-room, passed-more, passed-stop, passed-all}
+use Rattle.counting.specs.Lists.{at}
+use Rattle.survey.specs.Rows.{scoreAt}
+use Rattle.survey.proofs.Places.{score-next}
+use Rattle.survey.proofs.BySite.{Passed, passed-none, passed-room, passed-more, passed-stop, passed-all}
+use Rattle.values.proofs.Filling.{entry}
 use Rattle.values.proofs.fill_row.Statement.{statement}
 use Rattle.values.proofs.fill_row.Tie as tie
 
 abbrev Inv-loop : tie.InvT-loop
-Inv-loop scores row values₀ j₀ j-end values j = (j ≤ j-end) × (j-end ≡ length row) × Passed scores row values j
+Inv-loop scores row values₀ j₀ j-end values j = (j ≤ j-end) × (j-end ≡ length row) × Passed (scoreAt scores) 1 0 row values₀ values j
 
 abbrev μ-loop : tie.MeasureT-loop
 μ-loop scores row values₀ j₀ j-end values j = j-end - j
 
 loop-holds : tie.Need-loop-holds Inv-loop μ-loop
-loop-holds c = (search needs, refl, passed-start _ _ _ (c .pre .1 .0 .1) (c .pre .1 .1))
+loop-holds c = (search needs, refl, passed-none _ _ _ _ _ (c .pre .1 .1))
 
 shared-slice-read-b : tie.Need-shared-slice-read-b Inv-loop μ-loop
 shared-slice-read-b c = search needs
 
 same-length : tie.Need-same-length Inv-loop μ-loop
-same-length c = search needs
+same-length c = c .before .before .before .loop .inv .2 .size
 
 returns : tie.Need-returns Inv-loop μ-loop
-returns c = passed-stop _ _ _ _ (omega arith) (c .if1 .taken) (c .before .before .before .loop .inv .2)
+returns c = let p = c .before .before .before .before .pre in passed-stop (p .0 .0) (p .1 .0) (c .before .before .before .loop .inv .2) (omega arith) (c .if1 .taken)
 
 mul-values : tie.Need-mul-values Inv-loop μ-loop
 mul-values c = search needs
@@ -42,7 +46,9 @@ mul-values-2 : tie.Need-mul-values-2 Inv-loop μ-loop
 mul-values-2 c = omega (arith, c .before .before .shared-slice-known .given (c .before .before .before .before .loop .j))
 
 slice-write-values : tie.Need-slice-write-values Inv-loop μ-loop
-slice-write-values c = passed-room _ _ _ _ (c .before .before .before .before .before .pre .0) (omega arith) (c .before .before .before .before .loop .inv .2)
+slice-write-values c =
+    let p = c .before .before .before .before .before .pre in
+    omega (arith, passed-room (p .0 .0) (p .1 .0) (c .before .before .before .before .loop .inv .2) (omega arith))
 
 add-j : tie.Need-add-j Inv-loop μ-loop
 add-j c = search needs
@@ -51,13 +57,17 @@ loop-less : tie.Need-loop-less Inv-loop μ-loop
 loop-less c = search needs
 
 loop-again : tie.Need-loop-again Inv-loop μ-loop
-loop-again c = (search needs, refl, passed-more _ _ _ _ (c .before .before .before .before .before .pre .0) (omega arith) (c .before .if1 .left) (c .before .before .before .before .loop .inv .2))
+loop-again c =
+    let a = c .before .before .before .before .before .args in
+    let p = c .before .before .before .before .before .pre in
+    let l = c .before .before .before .before .loop in
+    (search needs, refl, rw (entry (at (a .row .now) (l .j))) at (passed-more (p .0 .0) (p .1 .0) (l .inv .2) _ (sym (score-next (a .scores .now) (l .j))) (omega arith) (c .before .if1 .left)))
 
 same-length-2 : tie.Need-same-length-2 Inv-loop μ-loop
-same-length-2 c = search needs
+same-length-2 c = c .before .loop .inv .2 .size
 
 returns-2 : tie.Need-returns-2 Inv-loop μ-loop
-returns-2 c = passed-all _ _ _ _ _ (omega arith) (omega arith) refl (c .before .loop .inv .2)
+returns-2 c = let p = c .before .before .pre in passed-all (p .0 .0) (p .1 .0) (c .before .loop .inv .2) _ (omega arith) (omega arith) refl
 
 pub fill-row-spec : {M : Type 1} → statement M
 fill-row-spec =

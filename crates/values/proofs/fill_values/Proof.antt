@@ -1,11 +1,12 @@
 -- `values::fill_values` meets its contract. Assumes nothing.
 use borrow.Author.Needs.{needs}
+use mathlib.Core.Path.{sym, _∙_}
 use Prim.Native.Nat.{_+_, _*_, _-_, _≤_}
 use native.Mathlib.Omega.{arith}
 use Rattle.survey.specs.Rows.{value}
 use Rattle.counting.proofs.Tables.{row-within}
-use Rattle.survey.proofs.BySite.{ranked, street-sound}
-use Rattle.values.proofs.Filling.{Filled, filled-start, filled-all, street-sized, street-blank, street-filled}
+use Rattle.survey.proofs.BySite.{ranked, row-length, street-sound}
+use Rattle.values.proofs.Filling.{Filled, filled-start, filled-all, street-room, street-unread, street-filled}
 use Rattle.values.proofs.fill_values.Statement.{statement}
 use Rattle.values.proofs.fill_values.Tie as tie
 
@@ -67,9 +68,10 @@ part-fill-row-end-2 c = omega (arith, ends (c .before))
 
 fill-row-requires : tie.Need-fill-row-requires Inv-loop μ-loop
 fill-row-requires c κs =
-    let t = c .before .before .before .loop in
+    let f = c .before .before .before .loop .inv .1 in
     let ok = c .before .before .before .before .before .before .before .pre .0 in
-    (street-sound (ranked _ _ _ _ ok) (omega arith), (street-sized ok (omega arith) (t .inv .1), street-blank ok (omega arith) (t .inv .1)))
+    let rows = ranked _ _ _ _ ok in
+    ((street-sound rows (omega arith), ok .scores-fit ∙ sym (row-length rows (omega arith))), (street-room ok (omega arith) f, street-unread ok (omega arith) f))
 
 add-s : tie.Need-add-s Inv-loop μ-loop
 add-s c = search needs

@@ -3,7 +3,8 @@ use borrow.Author.Needs.{needs}
 use native.Mathlib.Omega.{arith}
 use mathlib.Core.Path.{refl, sym}
 use lib.Seq.{length-take-le}
-use Rattle.balanced_rounds.proofs.Rounding.{line-ends, lines-small, line-of, held-more, taken-more}
+use Rattle.survey.proofs.BySite.{table-small}
+use Rattle.balanced_rounds.proofs.Rounding.{line-ends, line-of, held-more, taken-more}
 use Rattle.balanced_rounds.proofs.State.taking.Statement.{statement}
 use Rattle.balanced_rounds.proofs.State.taking.Tie as tie
 
@@ -13,7 +14,7 @@ mul-from c =
     let p = c .before .pre in
     let ends = line-ends (a .n) (a .m) (a .orders .now) (p .0 .0) (a .site) (p .1 .2) in
     let size = p .0 .0 .size in
-    let few = lines-small (a .n) (a .m) (p .0 .1) (p .1 .3) in
+    let few = table-small (a .n) (a .m) (p .0 .1) (p .1 .3) in
     omega (arith, ends, size, few)
 
 add-to : tie.Need-add-to
@@ -22,7 +23,7 @@ add-to c =
     let p = c .before .pre in
     let ends = line-ends (a .n) (a .m) (a .orders .now) (p .0 .0) (a .site) (p .1 .2) in
     let size = p .0 .0 .size in
-    let few = lines-small (a .n) (a .m) (p .0 .1) (p .1 .3) in
+    let few = table-small (a .n) (a .m) (p .0 .1) (p .1 .3) in
     omega (arith, ends, size, few)
 
 mul-give-lot : tie.Need-mul-give-lot
@@ -31,7 +32,7 @@ mul-give-lot c =
     let p = c .before .before .before .pre in
     let ends = line-ends (a .n) (a .m) (a .orders .now) (p .0 .0) (a .site) (p .1 .2) in
     let size = p .0 .0 .size in
-    let few = lines-small (a .n) (a .m) (p .0 .1) (p .1 .3) in
+    let few = table-small (a .n) (a .m) (p .0 .1) (p .1 .3) in
     omega (arith, ends, size, few)
 
 sub-give-lot : tie.Need-sub-give-lot
@@ -46,7 +47,7 @@ part-give-lot-end c =
     let p = c .before .before .before .pre in
     let ends = line-ends (a .n) (a .m) (a .orders .now) (p .0 .0) (a .site) (p .1 .2) in
     let size = p .0 .0 .size in
-    let few = lines-small (a .n) (a .m) (p .0 .1) (p .1 .3) in
+    let few = table-small (a .n) (a .m) (p .0 .1) (p .1 .3) in
     omega (arith, ends, size, few)
 
 array-share-prefix-before : tie.Need-array-share-prefix-before

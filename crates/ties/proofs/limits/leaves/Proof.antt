@@ -1,23 +1,17 @@
 -- `ties::limits::leaves` meets its contract. Assumes nothing.
 use borrow.Author.Needs.{needs}
-use mathlib.Core.Path.{_≡_, refl, sym}
+use mathlib.Core.Path.{_≡_, refl}
 use mathlib.Core.Bool.{true≢false}
-use mathlib.Core.Logic.{_≢_, by-cases}
-use mathlib.Core.List.{List}
+use mathlib.Core.Logic.{_≢_}
 use Prim.Native.Nat.{ℕ, _≤_, _<_, _-_}
-use native.Mathlib.Decide.{decLt}
 use native.Mathlib.Omega.{arith}
 use lib.ListN.{length}
 use borrow.Author.Count.{below-more}
 use Rattle.counting.specs.Lists.{at, cell}
-use Rattle.counting.proofs.Sums.{at-past}
+use Rattle.counting.proofs.Sums.{at-within}
 use Rattle.division.proofs.Dual.{Tight}
 use Rattle.ties.proofs.limits.leaves.Statement.{statement}
 use Rattle.ties.proofs.limits.leaves.Tie as tie
-
--- a site that has a share is one of the list
-within : (shares : List ℕ) (x : ℕ) → 0 < at shares x → x < length shares
-within shares x l = by-cases (decLt x (length shares)) (λ m. m) (λ m. absurd (omega (arith, at-past shares x (omega arith))))
 
 abbrev Inv-loop : tie.InvT-loop
 Inv-loop values shares prices division t y₀ y-end y =
@@ -50,7 +44,7 @@ loop-again c =
 returns-2 : tie.Need-returns-2 Inv-loop μ-loop
 returns-2 c =
     let l = c .before .loop in
-    λ e (x, some, away, t). l .inv .2 x (omega (arith, within (c .before .before .before .before .before .before .args .shares .now) x some)) some away t
+    λ e (x, some, away, t). l .inv .2 x (omega (arith, at-within (c .before .before .before .before .before .before .args .shares .now) x some)) some away t
 
 pub leaves-spec : {M : Type 1} → statement M
 leaves-spec =
