@@ -16,7 +16,7 @@ use Rattle.division.proofs.Counts.{shareSum, in-length}
 use Rattle.division.proofs.Best.{divide-in, divide-most}
 use Rattle.division.proofs.Dual.{Priced, weak}
 use Rattle.chains.specs.Chains.{Buffers}
-use Rattle.ties.specs.Queue.{Room}
+use Rattle.queues.specs.Queue.{Room}
 
 -- the tables of at most 65 sites are small
 pub areas : (w : ℕ) → w ≤ 65 → (w * w ≤ 4225) × ((w + 1) * w ≤ 4290)

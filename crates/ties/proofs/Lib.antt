@@ -1,6 +1,1 @@
-pub mod Growth
-pub mod Listing
-pub mod Bounds
-pub mod Homeward
-pub mod Limiting
 pub mod Settled

@@ -22,15 +22,15 @@ use Rattle.division.proofs.Counts.{by-order}
 use Rattle.division.proofs.Dual.{Priced, Tight, Cut, tight, priced-same}
 use Rattle.division.proofs.Ties.{Agree, first-start, first-step, first-best}
 use Rattle.division.proofs.Towns.{share-tail, sited}
-use Rattle.ties.specs.Queue.{Scene, flag, Later, Grown}
-use Rattle.ties.specs.Limits.{Leaver, Limits, Raised}
-use Rattle.ties.specs.Home.{Lowest, Turned}
-use Rattle.ties.specs.Tights.{Listed, Rowed}
+use Rattle.queues.specs.Queue.{Scene, flag, Later, Grown}
+use Rattle.queues.specs.Limits.{Leaver, Limits, Raised}
+use Rattle.queues.specs.Home.{Lowest, Turned}
+use Rattle.queues.specs.Tights.{Listed, Rowed}
 use Rattle.ties.specs.Standing.{Prices, Aim, Standing}
-use Rattle.ties.proofs.Growth.{cut-of}
-use Rattle.ties.proofs.Listing.{row-back}
-use Rattle.ties.proofs.Homeward.{swapped}
-use Rattle.ties.proofs.Limiting.{limits-fewer, limits-move, limits-home}
+use Rattle.queues.proofs.Growth.{cut-of}
+use Rattle.queues.proofs.Listing.{row-back}
+use Rattle.queues.proofs.Homeward.{swapped}
+use Rattle.queues.proofs.Limiting.{limits-fewer, limits-move, limits-home}
 
 -- a division in the shares of a town has its sites below the width
 pub scene-of : {values shares : List ℕ} (prices D : List ℕ) → Town values shares (length D) → Prices prices (length shares) → InShares D (tail shares)

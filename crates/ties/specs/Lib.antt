@@ -1,5 +1,1 @@
-pub mod Queue
-pub mod Limits
-pub mod Home
 pub mod Standing
-pub mod Tights

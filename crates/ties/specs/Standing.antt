@@ -8,7 +8,7 @@ use Rattle.counting.specs.Lists.{at}
 use Rattle.division.specs.Shares.{InShares}
 use Rattle.division.proofs.Dual.{Priced, Tight}
 use Rattle.division.proofs.Ties.{FirstTo}
-use Rattle.ties.specs.Limits.{LastAt}
+use Rattle.queues.specs.Limits.{LastAt}
 
 -- a price for each of w sites, at most 1,000,000,000
 abbrev pub Prices : List ℕ → ℕ → Type 0

@@ -8,15 +8,10 @@ ghost use Rattle.division.specs.Shares.{InShares};
 ghost use Rattle.division.specs.Divide.{divide};
 ghost use Rattle.division.specs.Town.{tail, Town};
 ghost use Rattle.division.proofs.Dual.{Priced, Tight};
-ghost use Rattle.ties.specs.Queue.{Scene, Room};
-ghost use Rattle.ties.specs.Limits.{Leaver, Limits, LastAt};
+ghost use Rattle.queues.specs.Queue.{Scene, Room};
+ghost use Rattle.queues.specs.Limits.{Leaver, Limits, LastAt};
 ghost use Rattle.ties.specs.Standing.{Aim, Prices, Standing};
-ghost use Rattle.ties.specs.Tights.{Listed, Rows};
-
-mod home;
-mod limits;
-mod queue;
-mod tights;
+ghost use Rattle.queues.specs.Tights.{Listed, Rows};
 
 // Whether the street s may go to the site b, and b can be left. The limit of b is lowered on the way.
 fn reach(
@@ -39,10 +34,10 @@ fn reach(
     ensures limits { λ _. ⌜ Limits (Leaver (cell (now (values .entry)) (length (now (shares .entry)))) (at (now (prices .entry))) (now (shares .entry)) (now (division .entry)))
         s (now (division .entry)) (now (limits .exit)) × ((x : ℕ) → at (now (limits .exit)) x ≤ at (now (limits .entry)) x) ⌝ }
 {
-    if !queue::may(values, shares, prices, division, s, b) {
+    if !queues::queue::may(values, shares, prices, division, s, b) {
         return false;
     }
-    limits::lower(values, shares, prices, division, s, b, limits)
+    queues::limits::lower(values, shares, prices, division, s, b, limits)
 }
 
 // The lowest site that the street s may go to and that can be left, its own where there is no lower one.
@@ -102,7 +97,7 @@ fn settle_far(
         s (now (division .exit)) (now (limits .exit)) ⌝ }
 {
     let w = shares.len();
-    let count = queue::grow(
+    let count = queues::queue::grow(
         values,
         prices,
         w,
@@ -115,8 +110,8 @@ fn settle_far(
         sites,
         marks,
     );
-    let place = home::lowest(values, prices, w, division, s, sites, count);
-    home::turn(division, s, place, streets, nexts, sites, limits);
+    let place = queues::home::lowest(values, prices, w, division, s, sites, count);
+    queues::home::turn(division, s, place, streets, nexts, sites, limits);
 }
 
 // The street s goes to the lowest site that it can have, and later streets make way: mostly one that stands there changes sites with it.
@@ -157,10 +152,10 @@ fn settle_street(
     }
     let limit = limits[b];
     let t = limit as usize - 1;
-    if queue::tight(values, prices, shares.len(), division, t, a as usize) {
+    if queues::queue::tight(values, prices, shares.len(), division, t, a as usize) {
         division[t] = a;
         division[s] = b as u8;
-        limits::raise(limits, a as usize, limit);
+        queues::limits::raise(limits, a as usize, limit);
         return;
     }
     settle_far(
@@ -244,8 +239,8 @@ pub fn settle(
     let mut tights = [0u16; 26065];
     let mut ends = [0u16; 65];
     let mut limits = [0u16; 65];
-    limits::fill(&mut limits, division.len() as u16);
-    tights::list_sites(values, shares, prices, division, &mut tights, &mut ends);
+    queues::limits::fill(&mut limits, division.len() as u16);
+    queues::tights::list_sites(values, shares, prices, division, &mut tights, &mut ends);
     settle_streets(
         values,
         shares,

@@ -6,7 +6,7 @@ use native.Mathlib.Omega.{arith}
 use lib.ListN.{length}
 use borrow.Author.Count.{below-more}
 use Rattle.counting.specs.Lists.{at, cell}
-use Rattle.ties.specs.Limits.{Leaver, Limits}
+use Rattle.queues.specs.Limits.{Leaver, Limits}
 use Rattle.ties.specs.Standing.{Loose}
 use Rattle.ties.proofs.aim.Statement.{statement}
 use Rattle.ties.proofs.aim.Tie as tie

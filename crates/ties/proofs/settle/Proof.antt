@@ -4,8 +4,8 @@ use mathlib.Core.Path.{refl, _∙_}
 use Prim.Native.Nat.{ℕ}
 use native.Mathlib.Omega.{arith}
 use lib.ListN.{replicate, length-replicate}
-use Rattle.ties.proofs.Listing.{rows-same, rows-room}
-use Rattle.ties.proofs.Limiting.{limits-start}
+use Rattle.queues.proofs.Listing.{rows-same, rows-room}
+use Rattle.queues.proofs.Limiting.{limits-start}
 use Rattle.ties.proofs.Settled.{scene-of, standing-start}
 use Rattle.ties.proofs.settle.Statement.{statement}
 use Rattle.ties.proofs.settle.Tie as tie

@@ -3,7 +3,7 @@ use borrow.Author.Needs.{needs}
 use mathlib.Core.Path.{_∙_}
 use native.Mathlib.Numerals.{lt-of-le-of-ne}
 use native.Mathlib.Omega.{arith}
-use Rattle.ties.proofs.Limiting.{last-street}
+use Rattle.queues.proofs.Limiting.{last-street}
 use Rattle.ties.proofs.Settled.{scene-of, standing-still, standing-swapped, listed-swapped, limits-swapped}
 use Rattle.ties.proofs.settle_street.Statement.{statement}
 use Rattle.ties.proofs.settle_street.Tie as tie

@@ -6,12 +6,12 @@ use native.Mathlib.Omega.{arith}
 use lib.ListN.{length}
 use Rattle.counting.specs.Lists.{at, cell}
 use Rattle.division.specs.Town.{tail}
-use Rattle.ties.specs.Limits.{Leaver, Limits}
+use Rattle.queues.specs.Limits.{Leaver, Limits}
 use Rattle.ties.specs.Standing.{Standing}
-use Rattle.ties.specs.Tights.{Listed}
-use Rattle.ties.proofs.Bounds.{room-same}
-use Rattle.ties.proofs.Listing.{rows-same}
-use Rattle.ties.proofs.Limiting.{limits-next}
+use Rattle.queues.specs.Tights.{Listed}
+use Rattle.queues.proofs.Bounds.{room-same}
+use Rattle.queues.proofs.Listing.{rows-same}
+use Rattle.queues.proofs.Limiting.{limits-next}
 use Rattle.ties.proofs.Settled.{town-same, standing-best}
 use Rattle.ties.proofs.settle_streets.Statement.{statement}
 use Rattle.ties.proofs.settle_streets.Tie as tie

@@ -1,0 +1,5 @@
+pub mod Growth
+pub mod Listing
+pub mod Bounds
+pub mod Homeward
+pub mod Limiting

@@ -1,0 +1,43 @@
+-- `queues::home::lower` meets its contract. Assumes nothing.
+use borrow.Author.Needs.{needs}
+use borrow.Author.Tests.{not-true, not-false}
+use Rattle.queues.proofs.Homeward.{lowest-new, lowest-keep}
+use Rattle.queues.proofs.home.lower.Statement.{statement}
+use Rattle.queues.proofs.home.lower.Tie as tie
+
+shared-slice-read-b : tie.Need-shared-slice-read-b
+shared-slice-read-b c = search needs
+
+shared-slice-read-if1 : tie.Need-shared-slice-read-if1
+shared-slice-read-if1 c = search needs
+
+returns : tie.Need-returns
+returns c = lowest-keep (c .before .before .before .before .before .before .before .pre .1 .1) (λ t. c .if1 .taken)
+
+cast-tight : tie.Need-cast-tight
+cast-tight c = search needs
+
+tight-requires : tie.Need-tight-requires
+tight-requires c κs = search needs
+
+returns-2 : tie.Need-returns-2
+returns-2 c =
+    let loose = c .before .tight .ensures .1 (not-true _ (c .if2 .taken)) in
+    lowest-keep (c .before .before .before .before .before .before .before .before .before .pre .1 .1) (λ t. absurd (loose t))
+
+returns-3 : tie.Need-returns-3
+returns-3 c =
+    let tight = c .before .tight .ensures .0 (not-false _ (c .if2 .left)) in
+    lowest-new (c .before .before .before .before .before .before .before .before .before .pre .1 .1) (c .before .before .if1 .left) tight
+
+pub lower-spec : {M : Type 1} → statement M
+lower-spec =
+    tie.close
+    (tie.spec
+    shared-slice-read-b
+    shared-slice-read-if1
+    returns
+    cast-tight
+    tight-requires
+    returns-2
+    returns-3)

@@ -1,0 +1,114 @@
+-- `queues::tights::list_site` meets its contract. Assumes nothing.
+use borrow.Author.Needs.{needs}
+use mathlib.Core.Path.{_∙_}
+use Prim.Native.Nat.{_+_, _*_}
+use native.Mathlib.Omega.{arith}
+use lib.ListN.{length, set, length-set}
+use lib.Seq.{getD-set-same}
+use Rattle.division.proofs.Ties.{Agree}
+use Rattle.queues.proofs.Listing.{row-fits, row-stored, listed-skip, listed-more, agree-set}
+use Rattle.queues.proofs.tights.list_site.Statement.{statement}
+use Rattle.queues.proofs.tights.list_site.Tie as tie
+
+mul-if1 : tie.Need-mul-if1
+mul-if1 c = search needs
+
+shared-slice-read-if1 : tie.Need-shared-slice-read-if1
+shared-slice-read-if1 c = search needs
+
+returns : tie.Need-returns
+returns c =
+    let start = c .before .before .before .before .before .before .before .before in
+    let a = start .args in
+    let p = start .pre in
+    listed-skip (a .shares .now) (a .tights .now) (a .ends .now) (a .y) (c .if1 .taken) (p .1 .1)
+
+add-row : tie.Need-add-row
+add-row c = search needs
+
+mul-row : tie.Need-mul-row
+mul-row c =
+    let start = c .before .before .before .before .before .before .before .before in
+    let a = start .args in
+    let p = start .pre in
+    let fits = row-fits (a .tights .now) (a .y) (0) (p .1 .0 .1) (omega arith) (p .0 .few-sites) (p .0 .few) (p .1 .0 .0 .0) in
+    omega (arith, fits .1)
+
+mul-tights : tie.Need-mul-tights
+mul-tights c =
+    let start = c .before .before .before .before .before .before .before .before in
+    let a = start .args in
+    let p = start .pre in
+    let fits = row-fits (a .tights .now) (a .y) (0) (p .1 .0 .1) (omega arith) (p .0 .few-sites) (p .0 .few) (p .1 .0 .0 .0) in
+    omega (arith, fits .1)
+
+slice-write-tights : tie.Need-slice-write-tights
+slice-write-tights c =
+    let start = c .before .before .before .before .before .before .before .before in
+    let a = start .args in
+    let p = start .pre in
+    let fits = row-fits (a .tights .now) (a .y) (0) (p .1 .0 .1) (omega arith) (p .0 .few-sites) (p .0 .few) (p .1 .0 .0 .0) in
+    omega (arith, fits .0)
+
+fill-row-requires : tie.Need-fill-row-requires
+fill-row-requires c κs =
+    let start = c .before .before .before .before .before .before .before .before .before in
+    let a = start .args in
+    let p = start .pre in
+    let r = a .y * (length (a .division .now) + 1) in
+    let fits = row-fits (a .tights .now) (a .y) (length (a .division .now)) (p .1 .0 .1) (omega arith) (p .0 .few-sites) (p .0 .few) (p .1 .0 .0 .0) in
+    (p .0, (p .1 .0 .1, omega (arith, fits .0, length-set (a .tights .now) r 0), getD-set-same (a .tights .now) r 0 0 (omega (arith, fits .0))))
+
+cast-ends : tie.Need-cast-ends
+cast-ends c = search needs
+
+mul-ends : tie.Need-mul-ends
+mul-ends c = search needs
+
+slice-write-ends : tie.Need-slice-write-ends
+slice-write-ends c = search needs
+
+same-length : tie.Need-same-length
+same-length c =
+    let t = c .before .before in
+    let start = c .before .before .before .before .before .before .before .before .before .before .before .before in
+    let a = start .args in
+    let p = start .pre in
+    t .fill-row .kept .1 .1 .1 .1 .1 .1 .0 ∙ length-set (a .tights .now) (a .y * (length (a .division .now) + 1)) 0
+
+same-length-2 : tie.Need-same-length-2
+same-length-2 c = search needs
+
+returns-2 : tie.Need-returns-2
+returns-2 c =
+    let t = c .before .before in
+    let e = t .fill-row .ensures in
+    let start = c .before .before .before .before .before .before .before .before .before .before .before .before in
+    let a = start .args in
+    let p = start .pre in
+    let r = a .y * (length (a .division .now) + 1) in
+    let n = t .fill-row .result in
+    let row = row-stored (a .ends .now) (a .y) n (omega (arith, p .1 .0 .0 .1, p .1 .0 .1)) (e .0) in
+    let now = t .fill-row .last .1 .1 .1 .1 .1 .1 .0 in
+    let before : Agree (a .tights .now) now r = λ u l. e .1 u l ∙ agree-set (a .tights .now) r r 0 (omega arith) u l in
+    let ends = agree-set (a .ends .now) (a .y) (a .y) n (omega arith) in
+    listed-more (a .shares .now) (a .tights .now) (a .ends .now) (a .y) now (set (a .ends .now) (a .y) n) before ends row (p .1 .1)
+
+pub list-site-spec : {M : Type 1} → statement M
+list-site-spec =
+    tie.close
+    (tie.spec
+    mul-if1
+    shared-slice-read-if1
+    returns
+    add-row
+    mul-row
+    mul-tights
+    slice-write-tights
+    fill-row-requires
+    cast-ends
+    mul-ends
+    slice-write-ends
+    same-length
+    same-length-2
+    returns-2)
