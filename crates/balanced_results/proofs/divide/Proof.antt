@@ -10,12 +10,6 @@ use Rattle.values.proofs.Tabled.{table-of, table-fits, table-blank, table-room,
 use Rattle.balanced_results.proofs.divide.Statement.{statement}
 use Rattle.balanced_results.proofs.divide.Tie as tie
 
-add-w : tie.Need-add-w
-add-w c = search needs
-
-mul-size : tie.Need-mul-size
-mul-size c = search needs
-
 array-borrow-prefix-table : tie.Need-array-borrow-prefix-table
 array-borrow-prefix-table c =
     let a = c .before .before .before .before .args in
@@ -46,17 +40,11 @@ slice-aggregate-divide-table c =
     let p = c .before .before .before .before .before .before .before .before .pre in
     table-size (a .n) (a .m) (a .scores .now) (a .rows .now) (p .0 .0) _ _ (c .before .before .fill-values .ensures)
 
-array-borrow-prefix-shares : tie.Need-array-borrow-prefix-shares
-array-borrow-prefix-shares c = search needs
-
 slice-aggregate-divide-table-2 : tie.Need-slice-aggregate-divide-table-2
 slice-aggregate-divide-table-2 c =
     let a = c .before .before .before .before .before .before .before .before .before .before .args in
     let p = c .before .before .before .before .before .before .before .before .before .before .pre in
     sym (front-length (a .m + 1) 65 (omega (arith, p .0 .0 .few-sites)))
-
-array-borrow-prefix-left : tie.Need-array-borrow-prefix-left
-array-borrow-prefix-left c = search needs
 
 slice-aggregate-divide-table-3 : tie.Need-slice-aggregate-divide-table-3
 slice-aggregate-divide-table-3 c =
@@ -70,9 +58,6 @@ divide-table-requires c κs =
     let p = c .before .before .before .before .before .before .before .before .before .before .before .pre in
     ((table-of _ _ _ _ (p .1) (table-ready (a .n) (a .m) (a .scores .now) (a .rows .now) (p .0 .0) _ _ (c .before .before .before .before .before .fill-values .ensures)), shareable-of _ _ _ _ (p .1) (p .0 .1)), (front-length (a .m + 1) 65 (omega (arith, p .0 .0 .few-sites)), front-length (a .m + 1) 65 (omega (arith, p .0 .0 .few-sites)), front-blank (a .m + 1) 65 (omega (arith, p .0 .0 .few-sites))))
 
-same-length : tie.Need-same-length
-same-length c = search needs
-
 returns : tie.Need-returns
 returns c =
     let a = c .before .before .before .before .before .before .before .before .before .before .before .before .before .before .before .before .args in
@@ -84,17 +69,17 @@ pub divide-spec : {M : Type 1} → statement M
 divide-spec =
     tie.close
     (tie.spec
-    add-w
-    mul-size
+    (λ c. search needs)
+    (λ c. search needs)
     array-borrow-prefix-table
     slice-aggregate-fill-values
     fill-values-requires
     array-share-prefix-table
     slice-aggregate-divide-table
-    array-borrow-prefix-shares
+    (λ c. search needs)
     slice-aggregate-divide-table-2
-    array-borrow-prefix-left
+    (λ c. search needs)
     slice-aggregate-divide-table-3
     divide-table-requires
-    same-length
+    (λ c. search needs)
     returns)

@@ -11,9 +11,6 @@ use Rattle.balanced_results.proofs.Divided.{unshared, town, for-all, gi
 use Rattle.balanced_results.proofs.divide_table.Statement.{statement}
 use Rattle.balanced_results.proofs.divide_table.Tie as tie
 
-div-q : tie.Need-div-q
-div-q c = search needs
-
 cast-share-out : tie.Need-cast-share-out
 cast-share-out c =
     let a = c .before .before .before .before .before .args in
@@ -38,15 +35,6 @@ best-requires c κs =
     let p = c .before .before .before .before .before .before .before .before .before .before .before .before .before .before .before .before .before .before .before .pre in
     (town _ _ _ _ _ (sym (c .before .before .before .before .before .before .begin .kept .1 .1 .1 .0)) (p .0 .0) (omega (arith, (c .before .before .before .before .before .before .before .before .before .before .before .before .share-out .kept .1 .1 .1 .0), p .1 .0)) ((c .before .before .before .before .before .before .before .before .before .before .before .before .share-out .ensures) .1), c .before .before .before .before .before .before .begin .ensures)
 
-same-length : tie.Need-same-length
-same-length c = search needs
-
-same-length-2 : tie.Need-same-length-2
-same-length-2 c = search needs
-
-same-length-3 : tie.Need-same-length-3
-same-length-3 c = search needs
-
 returns : tie.Need-returns
 returns c =
     let a = c .before .before .before .before .before .before .before .before .before .before .before .before .before .before .before .before .before .before .before .before .before .before .args in
@@ -57,12 +45,12 @@ pub divide-table-spec : {M : Type 1} → statement M
 divide-table-spec =
     tie.close
     (tie.spec
-    div-q
+    (λ c. search needs)
     cast-share-out
     share-out-requires
     begin-requires
     best-requires
-    same-length
-    same-length-2
-    same-length-3
+    (λ c. search needs)
+    (λ c. search needs)
+    (λ c. search needs)
     returns)

@@ -15,12 +15,6 @@ use Rattle.balanced_rounds.proofs.Rounding.{small-of, worths-small, cho
 use Rattle.balanced_rounds.proofs.choose.Statement.{statement}
 use Rattle.balanced_rounds.proofs.choose.Tie as tie
 
-add-width : tie.Need-add-width
-add-width c = search needs
-
-array-borrow-prefix-worths : tie.Need-array-borrow-prefix-worths
-array-borrow-prefix-worths c = search needs
-
 slice-aggregate-fill-worths : tie.Need-slice-aggregate-fill-worths
 slice-aggregate-fill-worths c =
     let a = c .before .before .before .before .before .args in
@@ -62,8 +56,8 @@ pub choose-spec : {M : Type 1} → statement M
 choose-spec =
     tie.close
     (tie.spec
-    add-width
-    array-borrow-prefix-worths
+    (λ c. search needs)
+    (λ c. search needs)
     slice-aggregate-fill-worths
     fill-worths-requires
     array-share-prefix-worths

@@ -28,23 +28,8 @@ loop-holds c = (search needs, refl, mapped-none _ _)
 worth-of-requires : tie.Need-worth-of-requires Inv-loop μ-loop
 worth-of-requires c κs = let p = c .before .before .before .before .before .before .before .pre in let l = c .before .loop in (p .0, (p .1 .0, omega (arith, p .1 .2), p .1 .1))
 
-mul-worths : tie.Need-mul-worths Inv-loop μ-loop
-mul-worths c = search needs
-
-slice-write-worths : tie.Need-slice-write-worths Inv-loop μ-loop
-slice-write-worths c = search needs
-
-add-a : tie.Need-add-a Inv-loop μ-loop
-add-a c = search needs
-
-loop-less : tie.Need-loop-less Inv-loop μ-loop
-loop-less c = search needs
-
 loop-again : tie.Need-loop-again Inv-loop μ-loop
 loop-again c = let l = c .before .before .loop in (omega arith, refl, mapped-more _ _ (l .worths) (l .a) _ (omega arith) (l .inv .2) (c .worth-of .ensures))
-
-same-length : tie.Need-same-length Inv-loop μ-loop
-same-length c = search needs
 
 returns : tie.Need-returns Inv-loop μ-loop
 returns c = let l = c .before .loop in λ x y. l .inv .2 .done x (omega (arith, c .before .before .before .before .before .before .before .pre .1 .2))
@@ -57,10 +42,10 @@ fill-worths-spec =
     μ-loop
     loop-holds
     worth-of-requires
-    mul-worths
-    slice-write-worths
-    add-a
-    loop-less
+    (λ c. search needs)
+    (λ c. search needs)
+    (λ c. search needs)
+    (λ c. search needs)
     loop-again
-    same-length
+    (λ c. search needs)
     returns)

@@ -17,12 +17,6 @@ Inv-loop values orders n m k q state₀ i₀ state i = (i ≤ k) × (state .coun
 abbrev μ-loop : tie.MeasureT-loop
 μ-loop values orders n m k q state₀ i₀ state i = k - i
 
-div-q : tie.Need-div-q Inv-loop μ-loop
-div-q c = search needs
-
-empty-requires : tie.Need-empty-requires Inv-loop μ-loop
-empty-requires c κs = search needs
-
 loop-holds : tie.Need-loop-holds Inv-loop μ-loop
 loop-holds c =
     let a = c .before .before .before .args in
@@ -36,12 +30,6 @@ round-requires c κs =
     let p = c .before .before .before .before .before .pre in
     let l = c .before .loop in
     (p .0, (l .inv .2, omega (arith, l .inv .1, p .1 .1, p .0 .0 .few-sites), omega (arith, div-le-self (a .n) (a .k), p .0 .0 .few-streets)))
-
-add-i : tie.Need-add-i Inv-loop μ-loop
-add-i c = search needs
-
-loop-less : tie.Need-loop-less Inv-loop μ-loop
-loop-less c = search needs
 
 loop-again : tie.Need-loop-again Inv-loop μ-loop
 loop-again c =
@@ -65,11 +53,11 @@ rounds-spec =
     (tie.spec
     Inv-loop
     μ-loop
-    div-q
-    empty-requires
+    (λ c. search needs)
+    (λ c κs. search needs)
     loop-holds
     round-requires
-    add-i
-    loop-less
+    (λ c. search needs)
+    (λ c. search needs)
     loop-again
     returns)

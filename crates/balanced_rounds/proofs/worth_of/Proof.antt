@@ -15,9 +15,6 @@ use Rattle.balanced_rounds.proofs.Rounding.{line-ends, line-of, line-fa
 use Rattle.balanced_rounds.proofs.worth_of.Statement.{statement}
 use Rattle.balanced_rounds.proofs.worth_of.Tie as tie
 
-shared-slice-read-if1 : tie.Need-shared-slice-read-if1
-shared-slice-read-if1 c = search needs
-
 returns : tie.Need-returns
 returns c = unless-none _ _ (c .if1 .taken)
 
@@ -48,12 +45,6 @@ mul-worth c =
     let few = table-small (length (a .division .now)) (a .m) (p .0 .0 .few-streets) (p .0 .0 .few-sites) in
     omega (arith, ends, size, few)
 
-sub-worth : tie.Need-sub-worth
-sub-worth c = search needs
-
-part-worth-start : tie.Need-part-worth-start
-part-worth-start c = search needs
-
 part-worth-end : tie.Need-part-worth-end
 part-worth-end c =
     let a = c .before .before .before .before .before .before .args in
@@ -79,13 +70,13 @@ pub worth-of-spec : {M : Type 1} → statement M
 worth-of-spec =
     tie.close
     (tie.spec
-    shared-slice-read-if1
+    (λ c. search needs)
     returns
     mul-from
     add-to
     mul-worth
-    sub-worth
-    part-worth-start
+    (λ c. search needs)
+    (λ c. search needs)
     part-worth-end
     worth-requires
     returns-2)

@@ -10,9 +10,6 @@ use lib.ListN.{length}
 use Rattle.best_division.proofs.best.Statement.{statement}
 use Rattle.best_division.proofs.best.Tie as tie
 
-array-borrow-prefix-low : tie.Need-array-borrow-prefix-low
-array-borrow-prefix-low c = search needs
-
 slice-aggregate-improve : tie.Need-slice-aggregate-improve
 slice-aggregate-improve c = sym (front-length (length (c .before .before .before .before .before .args .shares .now)) 65 (c .before .before .before .before .before .pre .0 .few-sites))
 
@@ -31,9 +28,6 @@ settle-requires c κs =
     let p = c .before .before .before .before .before .before .before .before .before .before .before .pre in
     (same-town _ _ (c .before .before .before .before .before .before .before .before .before .before .before .args .division .now) (c .before .before .before .before .before .improve .last .1 .1 .0) (i .kept .1 .1 .0) (p .0), (i .ensures .1 .0, ((back-size (length (c .before .before .before .before .before .before .before .before .before .before .before .args .shares .now)) (c .before .before .before .before .before .improve .last .1 .1 .1 .0) _ (omega (arith, c .before .before .before .before .before .improve .kept .1 .1 .1 .0, front-length (length (c .before .before .before .before .before .before .before .before .before .before .before .args .shares .now)) 65 (c .before .before .before .before .before .before .before .before .before .before .before .pre .0 .few-sites))), back-bound (length (c .before .before .before .before .before .before .before .before .before .before .before .args .shares .now)) (c .before .before .before .before .before .improve .last .1 .1 .1 .0) _ (omega (arith, c .before .before .before .before .before .improve .kept .1 .1 .1 .0, front-length (length (c .before .before .before .before .before .before .before .before .before .before .before .args .shares .now)) 65 (c .before .before .before .before .before .before .before .before .before .before .before .pre .0 .few-sites))) (i .ensures .1 .1 .0)), back-priced (length (c .before .before .before .before .before .before .before .before .before .before .before .args .shares .now)) (c .before .before .before .before .before .improve .last .1 .1 .1 .0) _ (omega (arith, c .before .before .before .before .before .improve .kept .1 .1 .1 .0, front-length (length (c .before .before .before .before .before .before .before .before .before .before .before .args .shares .now)) 65 (c .before .before .before .before .before .before .before .before .before .before .before .pre .0 .few-sites))) (cell (c .before .before .before .before .before .before .before .before .before .before .before .args .values .now) (length (c .before .before .before .before .before .before .before .before .before .before .before .args .shares .now))) (tail (c .before .before .before .before .before .before .before .before .before .before .before .args .shares .now)) (c .before .before .before .before .before .improve .last .1 .1 .0) (i .ensures .1 .1 .1))))
 
-same-length : tie.Need-same-length
-same-length c = search needs
-
 returns : tie.Need-returns
 returns c =
     let i = c .before .before .before .before .before .before .before .before .improve in
@@ -43,11 +37,11 @@ pub best-spec : {M : Type 1} → statement M
 best-spec =
     tie.close
     (tie.spec
-    array-borrow-prefix-low
+    (λ c. search needs)
     slice-aggregate-improve
     improve-requires
     array-share-prefix-low
     slice-aggregate-settle
     settle-requires
-    same-length
+    (λ c. search needs)
     returns)

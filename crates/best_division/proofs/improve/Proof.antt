@@ -12,9 +12,6 @@ use Rattle.best_division.proofs.improve.Tie as tie
 mul-area : tie.Need-mul-area
 mul-area c = let f = areas (length (c .before .before .before .before .args .shares .now)) (c .before .before .before .before .pre .0 .few-sites) in omega (arith, f .0, f .1)
 
-add-all : tie.Need-add-all
-add-all c = search needs
-
 mul-all : tie.Need-mul-all
 mul-all c = let f = areas (length (c .before .before .before .before .args .shares .now)) (c .before .before .before .before .pre .0 .few-sites) in omega (arith, f .0, f .1)
 
@@ -42,17 +39,8 @@ array-borrow-prefix-gains c = let f = areas (length (c .before .before .before .
 slice-aggregate-improve-4 : tie.Need-slice-aggregate-improve-4
 slice-aggregate-improve-4 c = sym (front-length ((length (c .before .before .before .before .before .before .before .before .before .before .args .shares .now)) * (length (c .before .before .before .before .before .before .before .before .before .before .args .shares .now))) 4225 (areas (length (c .before .before .before .before .before .before .before .before .before .before .args .shares .now)) (c .before .before .before .before .before .before .before .before .before .before .pre .0 .few-sites) .0))
 
-array-borrow-prefix-streets : tie.Need-array-borrow-prefix-streets
-array-borrow-prefix-streets c = search needs
-
 slice-aggregate-improve-5 : tie.Need-slice-aggregate-improve-5
 slice-aggregate-improve-5 c = sym (front-length (length (c .before .before .before .before .before .before .before .before .before .before .before .args .shares .now)) 65 (c .before .before .before .before .before .before .before .before .before .before .before .pre .0 .few-sites))
-
-add-sites : tie.Need-add-sites
-add-sites c = search needs
-
-array-borrow-prefix-sites : tie.Need-array-borrow-prefix-sites
-array-borrow-prefix-sites c = search needs
 
 slice-aggregate-improve-6 : tie.Need-slice-aggregate-improve-6
 slice-aggregate-improve-6 c = sym (front-length ((length (c .before .before .before .before .before .before .before .before .before .before .before .before .args .shares .now)) + 1) 66 (omega (arith, (c .before .before .before .before .before .before .before .before .before .before .before .before .pre .0 .few-sites))))
@@ -60,21 +48,12 @@ slice-aggregate-improve-6 c = sym (front-length ((length (c .before .before .bef
 improve-requires : tie.Need-improve-requires
 improve-requires c κs = let p = c .before .before .before .before .before .before .before .before .before .before .before .before .pre in ((p .0, p .1), buffers _ (c .before .before .before .before .before .before .before .before .before .before .before .before .args .low .now) (p .0 .few-sites) (p .2))
 
-same-length : tie.Need-same-length
-same-length c = search needs
-
-same-length-2 : tie.Need-same-length-2
-same-length-2 c = search needs
-
-returns : tie.Need-returns
-returns c = search needs
-
 pub improve-spec : {M : Type 1} → statement M
 improve-spec =
     tie.close
     (tie.spec
     mul-area
-    add-all
+    (λ c. search needs)
     mul-all
     array-borrow-prefix-prices
     slice-aggregate-improve
@@ -84,12 +63,12 @@ improve-spec =
     slice-aggregate-improve-3
     array-borrow-prefix-gains
     slice-aggregate-improve-4
-    array-borrow-prefix-streets
+    (λ c. search needs)
     slice-aggregate-improve-5
-    add-sites
-    array-borrow-prefix-sites
+    (λ c. search needs)
+    (λ c. search needs)
     slice-aggregate-improve-6
     improve-requires
-    same-length
-    same-length-2
-    returns)
+    (λ c. search needs)
+    (λ c. search needs)
+    (λ c. search needs))

@@ -17,29 +17,11 @@ loop-holds c = omega arith
 number-requires : tie.Need-number-requires Inv-loop μ-loop
 number-requires c κs = omega arith
 
-returns : tie.Need-returns Inv-loop μ-loop
-returns c = search needs
-
-add-one-case : tie.Need-add-one-case Inv-loop μ-loop
-add-one-case c = search needs
-
-one-case-requires : tie.Need-one-case-requires Inv-loop μ-loop
-one-case-requires c κs = search needs
-
-returns-2 : tie.Need-returns-2 Inv-loop μ-loop
-returns-2 c = search needs
-
 add-case : tie.Need-add-case Inv-loop μ-loop
 add-case c = omega arith
 
 loop-less : tie.Need-loop-less Inv-loop μ-loop
 loop-less c = omega arith
-
-loop-again : tie.Need-loop-again Inv-loop μ-loop
-loop-again c = search needs
-
-returns-3 : tie.Need-returns-3 Inv-loop μ-loop
-returns-3 c = search needs
 
 pub main-spec : {M : Type 1} → statement M
 main-spec =
@@ -49,11 +31,11 @@ main-spec =
     μ-loop
     loop-holds
     number-requires
-    returns
-    add-one-case
-    one-case-requires
-    returns-2
+    (λ c. search needs)
+    (λ c. search needs)
+    (λ c κs. search needs)
+    (λ c. search needs)
     add-case
     loop-less
-    loop-again
-    returns-3)
+    (λ c. search needs)
+    (λ c. search needs))

@@ -21,23 +21,11 @@ add-end c = let fits = room (c .before .before .before .before .before .before .
 mul-layer : tie.Need-mul-layer
 mul-layer c = let fits = room (c .before .before .before .before .before .before .before .before .before .args .k) (length (c .before .before .before .before .before .before .before .before .before .args .shares .now)) (c .before .before .before .before .before .before .before .before .before .pre .1 .0 .0) (c .before .before .before .before .before .before .before .before .before .pre .0 .0 .few-sites) in omega (arith, fits .0, fits .1, fits .2)
 
-sub-layer : tie.Need-sub-layer
-sub-layer c = search needs
-
-part-layer-start : tie.Need-part-layer-start
-part-layer-start c = search needs
-
 part-layer-end : tie.Need-part-layer-end
 part-layer-end c = let fits = room (c .before .before .before .before .before .before .before .before .before .args .k) (length (c .before .before .before .before .before .before .before .before .before .args .shares .now)) (c .before .before .before .before .before .before .before .before .before .pre .1 .0 .0) (c .before .before .before .before .before .before .before .before .before .pre .0 .0 .few-sites) in omega (arith, fits .0, fits .1, fits .2, c .before .before .before .before .before .before .before .before .before .pre .1 .0 .2, c .before .before .before .before .before .before .before .before .before .pre .1 .0 .3)
 
 mul-layer-2 : tie.Need-mul-layer-2
 mul-layer-2 c = let fits = room (c .before .before .before .before .before .before .before .before .before .before .args .k) (length (c .before .before .before .before .before .before .before .before .before .before .args .shares .now)) (c .before .before .before .before .before .before .before .before .before .before .pre .1 .0 .0) (c .before .before .before .before .before .before .before .before .before .before .pre .0 .0 .few-sites) in omega (arith, fits .0, fits .1, fits .2)
-
-sub-layer-2 : tie.Need-sub-layer-2
-sub-layer-2 c = search needs
-
-part-layer-start-2 : tie.Need-part-layer-start-2
-part-layer-start-2 c = search needs
 
 part-layer-end-2 : tie.Need-part-layer-end-2
 part-layer-end-2 c = let fits = room (c .before .before .before .before .before .before .before .before .before .before .args .k) (length (c .before .before .before .before .before .before .before .before .before .before .args .shares .now)) (c .before .before .before .before .before .before .before .before .before .before .pre .1 .0 .0) (c .before .before .before .before .before .before .before .before .before .before .pre .0 .0 .few-sites) in omega (arith, fits .0, fits .1, fits .2, c .before .before .before .before .before .before .before .before .before .before .pre .1 .0 .2, c .before .before .before .before .before .before .before .before .before .before .pre .1 .0 .3)
@@ -51,12 +39,6 @@ layer-requires c κs =
 mul-copy : tie.Need-mul-copy
 mul-copy c = let fits = room (c .before .before .before .before .before .before .before .before .before .before .before .before .before .before .before .before .args .k) (length (c .before .before .before .before .before .before .before .before .before .before .before .before .before .before .before .before .args .shares .now)) (c .before .before .before .before .before .before .before .before .before .before .before .before .before .before .before .before .pre .1 .0 .0) (c .before .before .before .before .before .before .before .before .before .before .before .before .before .before .before .before .pre .0 .0 .few-sites) in omega (arith, fits .0, fits .1, fits .2)
 
-sub-copy : tie.Need-sub-copy
-sub-copy c = search needs
-
-part-copy-start : tie.Need-part-copy-start
-part-copy-start c = search needs
-
 part-copy-end : tie.Need-part-copy-end
 part-copy-end c =
     let a = c .before .before .before .before .before .before .before .before .before .before .before .before .before .before .before .before .before .args in
@@ -65,17 +47,8 @@ part-copy-end c =
     let fits = room (c .before .before .before .before .before .before .before .before .before .before .before .before .before .before .before .before .before .args .k) (length (c .before .before .before .before .before .before .before .before .before .before .before .before .before .before .before .before .before .args .shares .now)) (c .before .before .before .before .before .before .before .before .before .before .before .before .before .before .before .before .before .pre .1 .0 .0) (c .before .before .before .before .before .before .before .before .before .before .before .before .before .before .before .before .before .pre .0 .0 .few-sites) in
     wrote (a .k * w + w) (a .k * w + w + w) (a .prices .now) (c .before .before .before .before .before .layer .last .1 .0) (omega arith) (omega (arith, fits .1, p .1 .0 .2, p .1 .0 .3)) (c .before .before .before .before .before .layer .kept .1 .0)
 
-copy-requires : tie.Need-copy-requires
-copy-requires c κs = search needs
-
 mul-highest : tie.Need-mul-highest
 mul-highest c = let fits = room (c .before .before .before .before .before .before .before .before .before .before .before .before .before .before .before .before .before .before .before .before .before .before .before .args .k) (length (c .before .before .before .before .before .before .before .before .before .before .before .before .before .before .before .before .before .before .before .before .before .before .before .args .shares .now)) (c .before .before .before .before .before .before .before .before .before .before .before .before .before .before .before .before .before .before .before .before .before .before .before .pre .1 .0 .0) (c .before .before .before .before .before .before .before .before .before .before .before .before .before .before .before .before .before .before .before .before .before .before .before .pre .0 .0 .few-sites) in omega (arith, fits .0, fits .1, fits .2)
-
-sub-highest : tie.Need-sub-highest
-sub-highest c = search needs
-
-part-highest-start : tie.Need-part-highest-start
-part-highest-start c = search needs
 
 part-highest-end : tie.Need-part-highest-end
 part-highest-end c =
@@ -84,18 +57,6 @@ part-highest-end c =
     let w = length (a .shares .now) in
     let fits = room (c .before .before .before .before .before .before .before .before .before .before .before .before .before .before .before .before .before .before .before .before .before .before .before .before .args .k) (length (c .before .before .before .before .before .before .before .before .before .before .before .before .before .before .before .before .before .before .before .before .before .before .before .before .args .shares .now)) (c .before .before .before .before .before .before .before .before .before .before .before .before .before .before .before .before .before .before .before .before .before .before .before .before .pre .1 .0 .0) (c .before .before .before .before .before .before .before .before .before .before .before .before .before .before .before .before .before .before .before .before .before .before .before .before .pre .0 .0 .few-sites) in
     wrote (a .k * w) (a .k * w + w) (a .vias .now) (c .before .before .before .before .before .before .before .before .before .before .before .before .layer .last .1 .1 .0) (omega arith) (omega (arith, fits .0, p .1 .0 .2, p .1 .0 .3)) (c .before .before .before .before .before .before .before .before .before .before .before .before .layer .kept .1 .1 .0)
-
-highest-requires : tie.Need-highest-requires
-highest-requires c κs = search needs
-
-same-length : tie.Need-same-length
-same-length c = search needs
-
-same-length-2 : tie.Need-same-length-2
-same-length-2 c = search needs
-
-same-length-3 : tie.Need-same-length-3
-same-length-3 c = search needs
 
 returns : tie.Need-returns
 returns c =
@@ -117,25 +78,25 @@ deepen-spec =
     add-to
     add-end
     mul-layer
-    sub-layer
-    part-layer-start
+    (λ c. search needs)
+    (λ c. search needs)
     part-layer-end
     mul-layer-2
-    sub-layer-2
-    part-layer-start-2
+    (λ c. search needs)
+    (λ c. search needs)
     part-layer-end-2
     layer-requires
     mul-copy
-    sub-copy
-    part-copy-start
+    (λ c. search needs)
+    (λ c. search needs)
     part-copy-end
-    copy-requires
+    (λ c κs. search needs)
     mul-highest
-    sub-highest
-    part-highest-start
+    (λ c. search needs)
+    (λ c. search needs)
     part-highest-end
-    highest-requires
-    same-length
-    same-length-2
-    same-length-3
+    (λ c κs. search needs)
+    (λ c. search needs)
+    (λ c. search needs)
+    (λ c. search needs)
     returns)

@@ -6,9 +6,6 @@ use native.Mathlib.Omega.{arith}
 use Rattle.chains.proofs.turn.Statement.{statement}
 use Rattle.chains.proofs.turn.Tie as tie
 
-shift-requires : tie.Need-shift-requires
-shift-requires c κs = search needs
-
 mend-requires : tie.Need-mend-requires
 mend-requires c κs =
     let a = c .before .before .before .before .before .before .before .before .before .before .before .before .before .args in
@@ -24,19 +21,7 @@ mend-requires c κs =
       ),
     )
 
-same-length : tie.Need-same-length
-same-length c = search needs
-
-same-length-2 : tie.Need-same-length-2
-same-length-2 c = search needs
-
-same-length-3 : tie.Need-same-length-3
-same-length-3 c = search needs
-
-returns : tie.Need-returns
-returns c = search needs
-
 pub turn-spec : {M : Type 1} → statement M
 turn-spec =
     tie.close
-    (tie.spec shift-requires mend-requires same-length same-length-2 same-length-3 returns)
+    (tie.spec (λ c κs. search needs) mend-requires (λ c. search needs) (λ c. search needs) (λ c. search needs) (λ c. search needs))

@@ -46,12 +46,6 @@ rename-requires-2 c κs =
     let best = as-many (λ k. divide (cell T (length (a .few .now))) k (tail (a .few .now))) F (length N) (length D) j (c .before .before .before .best .ensures .1) in
     λ s l. omega (arith, number-within (a .values .now) (a .shares .now) (length D) (p .0 .0) (a .sites .now) (a .numbers .now) (a .few .now) (p .1 .0) D refl (p .0 .1) T (c .before .before .before .before .before .before .before .before .before .before .before .before .fill .ensures) F best s l, p .1 .0 .fewer, p .1 .1 .0 .0)
 
-same-length : tie.Need-same-length
-same-length c = search needs
-
-same-length-2 : tie.Need-same-length-2
-same-length-2 c = search needs
-
 returns : tie.Need-returns
 returns c =
     let a = c .before .before .before .before .before .before .before .before .before .before .before .before .before .before .before .before .before .before .before .before .before .before .before .before .args in
@@ -73,6 +67,6 @@ best-of-few-spec =
     rename-requires
     best-requires
     rename-requires-2
-    same-length
-    same-length-2
+    (λ c. search needs)
+    (λ c. search needs)
     returns)

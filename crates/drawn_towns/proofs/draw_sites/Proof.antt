@@ -8,9 +8,6 @@ use borrow.Table.Elements.{same-len}
 use Rattle.drawn_towns.proofs.draw_sites.Statement.{statement}
 use Rattle.drawn_towns.proofs.draw_sites.Tie as tie
 
-array-borrow-prefix-sites : tie.Need-array-borrow-prefix-sites
-array-borrow-prefix-sites c = search needs
-
 slice-aggregate-shuffle : tie.Need-slice-aggregate-shuffle
 slice-aggregate-shuffle c = sym (length-take-le _ _ (omega arith))
 
@@ -22,4 +19,4 @@ returns c = same-len (c .before .before .before .before .args .m) (replicate 5 0
 
 pub draw-sites-spec : {M : Type 1} → statement M
 draw-sites-spec =
-    tie.close (tie.spec array-borrow-prefix-sites slice-aggregate-shuffle shuffle-requires returns)
+    tie.close (tie.spec (λ c. search needs) slice-aggregate-shuffle shuffle-requires returns)

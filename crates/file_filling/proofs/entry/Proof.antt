@@ -11,12 +11,6 @@ returns c =
     let p = c .before .pre in
     entry-none (a .file .now) (a .start) (a .size) (a .j) (omega arith)
 
-add-result : tie.Need-add-result
-add-result c = search needs
-
-shared-slice-read-result : tie.Need-shared-slice-read-result
-shared-slice-read-result c = search needs
-
 returns-2 : tie.Need-returns-2
 returns-2 c =
     let a = c .before .before .args in
@@ -24,4 +18,4 @@ returns-2 c =
     entry-some (a .file .now) (a .start) (a .size) (a .j) (omega arith)
 
 pub entry-spec : {M : Type 1} → statement M
-entry-spec = tie.close (tie.spec returns add-result shared-slice-read-result returns-2)
+entry-spec = tie.close (tie.spec returns (λ c. search needs) (λ c. search needs) returns-2)

@@ -18,12 +18,6 @@ fill-rows-requires c κs =
     let p = c .before .before .before .before .before .before .before .before .pre in
     (p .0, p .1, p .2, p .3)
 
-same-length : tie.Need-same-length
-same-length c = search needs
-
-same-length-2 : tie.Need-same-length-2
-same-length-2 c = search needs
-
 returns : tie.Need-returns
 returns c =
     let a = c .before .before .before .before .before .before .before .before .before .before .before .args in
@@ -32,4 +26,4 @@ returns c =
 
 pub fill-spec : {M : Type 1} → statement M
 fill-spec =
-    tie.close (tie.spec fill-scores-requires fill-rows-requires same-length same-length-2 returns)
+    tie.close (tie.spec fill-scores-requires fill-rows-requires (λ c. search needs) (λ c. search needs) returns)

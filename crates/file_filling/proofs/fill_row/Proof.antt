@@ -18,17 +18,8 @@ Inv-loop file from row₀ size start j₀ j-end row j = (j ≤ j-end) × (j-end 
 abbrev μ-loop : tie.MeasureT-loop
 μ-loop file from row₀ size start j₀ j-end row j = j-end - j
 
-add-size : tie.Need-add-size Inv-loop μ-loop
-add-size c = search needs
-
-shared-slice-read-size : tie.Need-shared-slice-read-size Inv-loop μ-loop
-shared-slice-read-size c = search needs
-
 cast-size : tie.Need-cast-size Inv-loop μ-loop
 cast-size c = omega (arith, c .shared-slice-known2 .given (c .before .before .before .args .from + 4))
-
-add-start : tie.Need-add-start Inv-loop μ-loop
-add-start c = search needs
 
 loop-holds : tie.Need-loop-holds Inv-loop μ-loop
 loop-holds c = (search needs, refl, mapped-none _ _)
@@ -36,24 +27,12 @@ loop-holds c = (search needs, refl, mapped-none _ _)
 entry-requires : tie.Need-entry-requires Inv-loop μ-loop
 entry-requires c κs = omega (arith, c .before .before .before .before .before .pre)
 
-slice-write-row : tie.Need-slice-write-row Inv-loop μ-loop
-slice-write-row c = search needs
-
-add-j : tie.Need-add-j Inv-loop μ-loop
-add-j c = search needs
-
-loop-less : tie.Need-loop-less Inv-loop μ-loop
-loop-less c = search needs
-
 loop-again : tie.Need-loop-again Inv-loop μ-loop
 loop-again c =
     let a = c .before .before .before .before .before .before .args in
     let p = c .before .before .before .before .before .before .pre in
     let l = c .before .before .loop in
     (omega arith, refl, mapped-more _ _ (l .row) (l .j) _ (omega arith) (l .inv .2) (list-of (a .file .now) (a .from) (l .j) _ (c .entry .ensures)))
-
-same-length : tie.Need-same-length Inv-loop μ-loop
-same-length c = search needs
 
 returns : tie.Need-returns Inv-loop μ-loop
 returns c = let l = c .before .loop in mapped-end _ _ _ (l .j) _ (omega arith) (omega arith) (l .inv .2)
@@ -64,15 +43,15 @@ fill-row-spec =
     (tie.spec
     Inv-loop
     μ-loop
-    add-size
-    shared-slice-read-size
+    (λ c. search needs)
+    (λ c. search needs)
     cast-size
-    add-start
+    (λ c. search needs)
     loop-holds
     entry-requires
-    slice-write-row
-    add-j
-    loop-less
+    (λ c. search needs)
+    (λ c. search needs)
+    (λ c. search needs)
     loop-again
-    same-length
+    (λ c. search needs)
     returns)

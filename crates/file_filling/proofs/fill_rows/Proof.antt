@@ -47,12 +47,6 @@ add-high c =
     let fits = filling-room (a .file .now) (p .0) (a .n) (a .m) (p .1) (p .2) _ _ (l .s) (l .from) (omega arith) (l .inv .1) in
     omega (arith, fits .1)
 
-sub-fill-row : tie.Need-sub-fill-row Inv-loop μ-loop
-sub-fill-row c = search needs
-
-part-fill-row-start : tie.Need-part-fill-row-start Inv-loop μ-loop
-part-fill-row-start c = search needs
-
 part-fill-row-end : tie.Need-part-fill-row-end Inv-loop μ-loop
 part-fill-row-end c =
     let a = c .before .before .before .before .args in
@@ -104,12 +98,6 @@ add-from-4 c =
     let fits = filling-room (a .file .now) (p .0) (a .n) (a .m) (p .1) (p .2) _ _ (l .s) (l .from) (omega arith) (l .inv .1) in
     omega (arith, fits .0)
 
-add-s : tie.Need-add-s Inv-loop μ-loop
-add-s c = search needs
-
-loop-less : tie.Need-loop-less Inv-loop μ-loop
-loop-less c = search needs
-
 loop-again : tie.Need-loop-again Inv-loop μ-loop
 loop-again c =
     let a = c .before .before .before .before .before .before .before .before .before .args in
@@ -140,8 +128,8 @@ fill-rows-spec =
     loop-holds
     mul-low
     add-high
-    sub-fill-row
-    part-fill-row-start
+    (λ c. search needs)
+    (λ c. search needs)
     part-fill-row-end
     fill-row-requires
     add-from-2
@@ -149,8 +137,8 @@ fill-rows-spec =
     shared-slice-read-from
     cast-from
     add-from-4
-    add-s
-    loop-less
+    (λ c. search needs)
+    (λ c. search needs)
     loop-again
     same-length
     returns)

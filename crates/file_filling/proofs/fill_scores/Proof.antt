@@ -17,12 +17,6 @@ abbrev μ-loop : tie.MeasureT-loop
 loop-holds : tie.Need-loop-holds Inv-loop μ-loop
 loop-holds c = (omega arith, mapped-none _ _)
 
-mul-word-at : tie.Need-mul-word-at Inv-loop μ-loop
-mul-word-at c = search needs
-
-add-word-at : tie.Need-add-word-at Inv-loop μ-loop
-add-word-at c = search needs
-
 word-at-requires : tie.Need-word-at-requires Inv-loop μ-loop
 word-at-requires c κs = omega (arith, c .before .before .before .before .pre .0)
 
@@ -34,12 +28,6 @@ mul-scores c = let l = c .before .before .loop in omega (arith, l .inv .1 .size,
 
 slice-write-scores : tie.Need-slice-write-scores Inv-loop μ-loop
 slice-write-scores c = let l = c .before .before .loop in omega (arith, l .inv .1 .size, c .before .before .before .before .before .pre .1)
-
-add-i : tie.Need-add-i Inv-loop μ-loop
-add-i c = search needs
-
-loop-less : tie.Need-loop-less Inv-loop μ-loop
-loop-less c = search needs
 
 loop-again : tie.Need-loop-again Inv-loop μ-loop
 loop-again c = let l = c .before .before .loop in (omega arith, mapped-more _ _ (l .scores) (l .i) _ (omega (arith, c .before .before .before .before .before .pre .1)) (l .inv .1) (c .word-at .ensures .0))
@@ -57,14 +45,14 @@ fill-scores-spec =
     Inv-loop
     μ-loop
     loop-holds
-    mul-word-at
-    add-word-at
+    (λ c. search needs)
+    (λ c. search needs)
     word-at-requires
     cast-scores
     mul-scores
     slice-write-scores
-    add-i
-    loop-less
+    (λ c. search needs)
+    (λ c. search needs)
     loop-again
     same-length
     returns)

@@ -5,15 +5,6 @@ use Rattle.file_reader.proofs.Whole.{town-stops, town-there, scores-sto
 use Rattle.file_reader.proofs.check.Statement.{statement}
 use Rattle.file_reader.proofs.check.Tie as tie
 
-town-requires : tie.Need-town-requires
-town-requires c κs = search needs
-
-enum-known-town : tie.Need-enum-known-town
-enum-known-town c = search needs
-
-number-of-requires : tie.Need-number-of-requires
-number-of-requires c κs = search needs
-
 returns : tie.Need-returns
 returns c = town-stops (c .before .before .before .before .args .file .now) _ _ (c .before .before .town .ensures) (c .before .match .keys2) (c .number-of .ensures)
 
@@ -23,12 +14,6 @@ scores-requires c κs =
     let t = c .before .town2 .given .0 in
     let town = sym (c .before .town2 .given .1) ∙ c .before .before .before .town .ensures in
     town-there file (t .0) (t .1 .0) (t .1 .1 .0) (t .1 .1 .1 .0) town
-
-enum-told : tie.Need-enum-told
-enum-told c = search needs
-
-number-of-requires-2 : tie.Need-number-of-requires-2
-number-of-requires-2 c κs = search needs
 
 returns-2 : tie.Need-returns-2
 returns-2 c =
@@ -52,15 +37,6 @@ returns-3 c =
     let scores = sym (c .before .before .enum-told .given .1) ∙ c .before .before .before .before .scores .ensures in
     streets-stop file (t .0) (t .1 .0) (t .1 .1 .0) (t .1 .1 .1 .0) town scores _ (c .before .streets-and-end .ensures) (c .if1 .taken)
 
-cast-t12 : tie.Need-cast-t12
-cast-t12 c = search needs
-
-cast-t13 : tie.Need-cast-t13
-cast-t13 c = search needs
-
-cast-t14 : tie.Need-cast-t14
-cast-t14 c = search needs
-
 returns-4 : tie.Need-returns-4
 returns-4 c =
     let file = c .before .before .before .before .before .before .before .before .before .before .args .file .now in
@@ -73,17 +49,17 @@ pub check-spec : {M : Type 1} → statement M
 check-spec =
     tie.close
     (tie.spec
-    town-requires
-    enum-known-town
-    number-of-requires
+    (λ c κs. search needs)
+    (λ c. search needs)
+    (λ c κs. search needs)
     returns
     scores-requires
-    enum-told
-    number-of-requires-2
+    (λ c. search needs)
+    (λ c κs. search needs)
     returns-2
     streets-and-end-requires
     returns-3
-    cast-t12
-    cast-t13
-    cast-t14
+    (λ c. search needs)
+    (λ c. search needs)
+    (λ c. search needs)
     returns-4)

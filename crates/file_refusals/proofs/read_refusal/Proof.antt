@@ -13,15 +13,9 @@ returns c = refuse-unless 6 _ _ (lit< tt) (ne-eqb _ _ (c .if1 .taken))
 returns-2 : tie.Need-returns-2
 returns-2 c = skip-unless _ 6 _ _ (eq-eqb _ _ (c .before .if1 .left)) (refuse-unless 6 _ _ (lit< tt) (ne-eqb _ _ (c .if2 .taken)))
 
-check-requires : tie.Need-check-requires
-check-requires c κs = search needs
-
-number-of-requires : tie.Need-number-of-requires
-number-of-requires c κs = search needs
-
 returns-3 : tie.Need-returns-3
 returns-3 c = skip-unless _ 6 _ _ (eq-eqb _ _ (c .before .before .before .if1 .left)) (skip-unless _ 6 _ _ (eq-eqb _ _ (c .before .before .if2 .left)) (c .number-of .ensures ∙ c .before .check .ensures .0))
 
 pub read-refusal-spec : {M : Type 1} → statement M
 read-refusal-spec =
-    tie.close (tie.spec returns returns-2 check-requires number-of-requires returns-3)
+    tie.close (tie.spec returns returns-2 (λ c κs. search needs) (λ c κs. search needs) returns-3)

@@ -4,20 +4,11 @@ use Rattle.file_refusals.proofs.Tried.{write-stop, write-pass, sized}
 use Rattle.file_refusals.proofs.write_refusal.Statement.{statement}
 use Rattle.file_refusals.proofs.write_refusal.Tie as tie
 
-kind-refusal-requires : tie.Need-kind-refusal-requires
-kind-refusal-requires c κs = search needs
-
-survey-refusal-requires : tie.Need-survey-refusal-requires
-survey-refusal-requires c κs = search needs
-
 returns : tie.Need-returns
 returns c = let a = c .before .before .before .before .before .before .args in write-stop (a .n) (a .m) (a .k) (a .kind) _ (a .scores .now) (a .rows .now) (a .file .now) (c .before .before .kind-refusal .ensures) _ (c .before .survey-refusal .ensures) (c .if1 .taken)
 
 file-length-requires : tie.Need-file-length-requires
 file-length-requires c κs = let a = c .before .before .before .before .before .before .args in sized (a .n) (a .m) (a .k) _ (a .scores .now) (a .rows .now) _ (c .before .survey-refusal .ensures) (c .if1 .left)
-
-room-refusal-requires : tie.Need-room-refusal-requires
-room-refusal-requires c κs = search needs
 
 returns-2 : tie.Need-returns-2
 returns-2 c = let a = c .before .before .before .before .before .before .before .before .args in write-pass (a .n) (a .m) (a .k) (a .kind) _ (a .scores .now) (a .rows .now) (a .file .now) (c .before .before .before .before .kind-refusal .ensures) _ _ _ (c .before .before .before .survey-refusal .ensures) (c .before .before .if1 .left) (c .before .file-length .ensures (a .k) (a .kind) (a .scores .now)) (c .room-refusal .ensures)
@@ -26,9 +17,9 @@ pub write-refusal-spec : {M : Type 1} → statement M
 write-refusal-spec =
     tie.close
     (tie.spec
-    kind-refusal-requires
-    survey-refusal-requires
+    (λ c κs. search needs)
+    (λ c κs. search needs)
     returns
     file-length-requires
-    room-refusal-requires
+    (λ c κs. search needs)
     returns-2)

@@ -15,12 +15,6 @@ Inv-loop n m rows size₀ s₀ size s = (s ≤ n) × Sized m rows s size
 abbrev μ-loop : tie.MeasureT-loop
 μ-loop n m rows size₀ s₀ size s = n - s
 
-mul-size : tie.Need-mul-size Inv-loop μ-loop
-mul-size c = search needs
-
-add-size : tie.Need-add-size Inv-loop μ-loop
-add-size c = search needs
-
 loop-holds : tie.Need-loop-holds Inv-loop μ-loop
 loop-holds c = (search needs, sized-none _ _ (c .before .pre .1))
 
@@ -40,12 +34,6 @@ add-size-3 c =
     let l = c .before .before .loop in
     omega (arith, l .inv .1 .small, p .0, p .1, ap length (c .list-of .ensures), list-short (a .m) (a .rows .now) (l .s))
 
-add-s : tie.Need-add-s Inv-loop μ-loop
-add-s c = search needs
-
-loop-less : tie.Need-loop-less Inv-loop μ-loop
-loop-less c = search needs
-
 loop-again : tie.Need-loop-again Inv-loop μ-loop
 loop-again c =
     let p = c .before .before .before .before .pre in
@@ -61,13 +49,13 @@ file-length-spec =
     (tie.spec
     Inv-loop
     μ-loop
-    mul-size
-    add-size
+    (λ c. search needs)
+    (λ c. search needs)
     loop-holds
     add-size-2
     list-of-requires
     add-size-3
-    add-s
-    loop-less
+    (λ c. search needs)
+    (λ c. search needs)
     loop-again
     returns)

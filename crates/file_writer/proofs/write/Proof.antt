@@ -42,9 +42,6 @@ write-word-requires c κs =
     let r = room (c .before .before .before .before .before .before .before .before .before .before .before .before .before .before .before .before) in
     omega (arith, town .behind, scores .behind, streets .behind)
 
-same-length : tie.Need-same-length
-same-length c = search needs
-
 returns : tie.Need-returns
 returns c =
     let a = c .before .before .before .before .before .before .before .before .before .before .before .before .before .before .before .before .before .before .before .args in
@@ -61,5 +58,5 @@ write-spec =
     write-scores-requires
     write-streets-requires
     write-word-requires
-    same-length
+    (λ c. search needs)
     returns)

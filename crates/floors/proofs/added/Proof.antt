@@ -6,19 +6,10 @@ use Rattle.floors.proofs.Turns.{added-is}
 use Rattle.floors.proofs.added.Statement.{statement}
 use Rattle.floors.proofs.added.Tie as tie
 
-sure-requires : tie.Need-sure-requires
-sure-requires c κs = search needs
-
-div-result : tie.Need-div-result
-div-result c = search needs
-
 cast-result : tie.Need-cast-result
 cast-result c =
     let s = c .before .before in
     omega (arith, s .pre .1, div-le-self (s .args .n) (s .args .k))
-
-cast-result-2 : tie.Need-cast-result-2
-cast-result-2 c = search needs
 
 mul-result : tie.Need-mul-result
 mul-result c =
@@ -34,4 +25,4 @@ returns c =
 
 pub added-spec : {M : Type 1} → statement M
 added-spec =
-    tie.close (tie.spec sure-requires div-result cast-result cast-result-2 mul-result returns)
+    tie.close (tie.spec (λ c κs. search needs) (λ c. search needs) cast-result (λ c. search needs) mul-result returns)

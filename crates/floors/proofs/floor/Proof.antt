@@ -17,24 +17,6 @@ Inv-loop n m k scores rows t total₀ i₀ total i = (i ≤ k) × (total ≡ sum
 abbrev μ-loop : tie.MeasureT-loop
 μ-loop n m k scores rows t total₀ i₀ total i = k - i
 
-shortest-requires : tie.Need-shortest-requires Inv-loop μ-loop
-shortest-requires c κs = search needs
-
-loop-holds : tie.Need-loop-holds Inv-loop μ-loop
-loop-holds c = search needs
-
-added-requires : tie.Need-added-requires Inv-loop μ-loop
-added-requires c κs = search needs
-
-add-total : tie.Need-add-total Inv-loop μ-loop
-add-total c = search needs
-
-add-i : tie.Need-add-i Inv-loop μ-loop
-add-i c = search needs
-
-loop-less : tie.Need-loop-less Inv-loop μ-loop
-loop-less c = search needs
-
 loop-again : tie.Need-loop-again Inv-loop μ-loop
 loop-again c =
     let a = c .before .before .before .before .before .before .args in
@@ -57,11 +39,11 @@ floor-spec =
     (tie.spec
     Inv-loop
     μ-loop
-    shortest-requires
-    loop-holds
-    added-requires
-    add-total
-    add-i
-    loop-less
+    (λ c κs. search needs)
+    (λ c. search needs)
+    (λ c κs. search needs)
+    (λ c. search needs)
+    (λ c. search needs)
+    (λ c. search needs)
     loop-again
     returns)

@@ -7,24 +7,6 @@ use Rattle.survey.proofs.Laws.{row-part}
 use Rattle.floors.proofs.list_length.Statement.{statement}
 use Rattle.floors.proofs.list_length.Tie as tie
 
-mul-from : tie.Need-mul-from
-mul-from c = search needs
-
-add-to : tie.Need-add-to
-add-to c = search needs
-
-sub-ranked : tie.Need-sub-ranked
-sub-ranked c = search needs
-
-part-ranked-start : tie.Need-part-ranked-start
-part-ranked-start c = search needs
-
-part-ranked-end : tie.Need-part-ranked-end
-part-ranked-end c = search needs
-
-ranked-requires : tie.Need-ranked-requires
-ranked-requires c κs = search needs
-
 returns : tie.Need-returns
 returns c =
     let a = c .before .before .before .args in
@@ -33,4 +15,4 @@ returns c =
 pub list-length-spec : {M : Type 1} → statement M
 list-length-spec =
     tie.close
-    (tie.spec mul-from add-to sub-ranked part-ranked-start part-ranked-end ranked-requires returns)
+    (tie.spec (λ c. search needs) (λ c. search needs) (λ c. search needs) (λ c. search needs) (λ c. search needs) (λ c κs. search needs) returns)

@@ -24,15 +24,6 @@ list-length-requires c κs =
     let p = c .before .before .before .pre in
     omega (arith, p, row-within (a .n) (a .m) (c .before .loop .s) (omega arith))
 
-lesser-requires : tie.Need-lesser-requires Inv-loop μ-loop
-lesser-requires c κs = search needs
-
-add-s : tie.Need-add-s Inv-loop μ-loop
-add-s c = search needs
-
-loop-less : tie.Need-loop-less Inv-loop μ-loop
-loop-less c = search needs
-
 loop-again : tie.Need-loop-again Inv-loop μ-loop
 loop-again c =
     let l = c .before .before .before .loop in
@@ -53,8 +44,8 @@ shortest-spec =
     μ-loop
     loop-holds
     list-length-requires
-    lesser-requires
-    add-s
-    loop-less
+    (λ c κs. search needs)
+    (λ c. search needs)
+    (λ c. search needs)
     loop-again
     returns)

@@ -7,15 +7,6 @@ use Rattle.floors.proofs.Turns.{ceil-most, sure-none, sure-score}
 use Rattle.floors.proofs.sure.Statement.{statement}
 use Rattle.floors.proofs.sure.Tie as tie
 
-sub-rounded-up : tie.Need-sub-rounded-up
-sub-rounded-up c = search needs
-
-sub-rounded-up-2 : tie.Need-sub-rounded-up-2
-sub-rounded-up-2 c = search needs
-
-rounded-up-requires : tie.Need-rounded-up-requires
-rounded-up-requires c κs = search needs
-
 add-place : tie.Need-add-place
 add-place c =
     let a = c .before .before .args in
@@ -27,9 +18,6 @@ returns c =
     let a = c .before .before .before .args in
     sure-none (scoreAt (a .scores .now)) (a .t) (a .m) (a .k) (a .i) _ (c .before .rounded-up .ensures) (c .if1 .taken)
 
-score-at-requires : tie.Need-score-at-requires
-score-at-requires c κs = search needs
-
 returns-2 : tie.Need-returns-2
 returns-2 c =
     let a = c .before .before .before .before .args in
@@ -39,10 +27,10 @@ pub sure-spec : {M : Type 1} → statement M
 sure-spec =
     tie.close
     (tie.spec
-    sub-rounded-up
-    sub-rounded-up-2
-    rounded-up-requires
+    (λ c. search needs)
+    (λ c. search needs)
+    (λ c κs. search needs)
     add-place
     returns
-    score-at-requires
+    (λ c κs. search needs)
     returns-2)

@@ -11,9 +11,6 @@ planned-requires c κs =
     let p = c .before .before .before .before .pre in
     (p .0 .0, (omega (arith, p .0 .1), p .0 .2))
 
-slice-aggregate-serve : tie.Need-slice-aggregate-serve
-slice-aggregate-serve c = search needs
-
 serve-requires : tie.Need-serve-requires
 serve-requires c κs =
     let a = c .before .before .before .before .before .before .before .before .args in
@@ -25,9 +22,6 @@ total-of-requires c κs =
     let a = c .before .before .before .before .before .before .before .before .before .before .before .args in
     let p = c .before .before .before .before .before .before .before .before .before .before .before .pre in
     total-ready (a .n) (a .m) (a .scores .now) (a .rows .now) (p .0 .0) (c .before .before .before .before .before .before .planned .result) (c .before .before .before .before .before .before .planned .ensures .1)
-
-same-length : tie.Need-same-length
-same-length c = search needs
 
 returns : tie.Need-returns
 returns c =
@@ -43,8 +37,8 @@ divide-spec =
     tie.close
     (tie.spec
     planned-requires
-    slice-aggregate-serve
+    (λ c. search needs)
     serve-requires
     total-of-requires
-    same-length
+    (λ c. search needs)
     returns)

@@ -9,29 +9,17 @@ use Rattle.free_results.proofs.Results.{total-ready, total-found, serve
 use Rattle.free_results.proofs.plan.Statement.{statement}
 use Rattle.free_results.proofs.plan.Tie as tie
 
-array-share-prefix-none : tie.Need-array-share-prefix-none
-array-share-prefix-none c = search needs
-
-slice-aggregate-planned : tie.Need-slice-aggregate-planned
-slice-aggregate-planned c = search needs
-
 planned-requires : tie.Need-planned-requires
 planned-requires c κs =
     let a = c .before .before .before .before .before .args in
     let p = c .before .before .before .before .before .pre in
     (p .0 .0, (omega (arith, p .0 .1), λ i. omega arith))
 
-slice-aggregate-serve : tie.Need-slice-aggregate-serve
-slice-aggregate-serve c = search needs
-
 serve-requires : tie.Need-serve-requires
 serve-requires c κs =
     let a = c .before .before .before .before .before .before .before .before .before .before .args in
     let p = c .before .before .before .before .before .before .before .before .before .before .pre in
     serve-ready (a .n) (a .m) (a .scores .now) (a .rows .now) (p .0 .0) (c .before .before .before .before .planned .result) (c .before .before .before .before .planned .ensures .1) _ (p .1)
-
-array-share-prefix-sites : tie.Need-array-share-prefix-sites
-array-share-prefix-sites c = search needs
 
 slice-aggregate-copy : tie.Need-slice-aggregate-copy
 slice-aggregate-copy c =
@@ -53,12 +41,6 @@ total-of-requires c κs =
     let p = c .before .before .before .before .before .before .before .before .before .before .before .before .before .before .before .before .before .before .pre in
     total-ready (a .n) (a .m) (a .scores .now) (a .rows .now) (p .0 .0) (c .before .before .before .before .before .before .before .before .before .before .before .before .planned .result) (c .before .before .before .before .before .before .before .before .before .before .before .before .planned .ensures .1)
 
-same-length : tie.Need-same-length
-same-length c = search needs
-
-same-length-2 : tie.Need-same-length-2
-same-length-2 c = search needs
-
 returns : tie.Need-returns
 returns c =
     let a = c .before .before .before .before .before .before .before .before .before .before .before .before .before .before .before .before .before .before .before .args in
@@ -76,15 +58,15 @@ pub plan-spec : {M : Type 1} → statement M
 plan-spec =
     tie.close
     (tie.spec
-    array-share-prefix-none
-    slice-aggregate-planned
+    (λ c. search needs)
+    (λ c. search needs)
     planned-requires
-    slice-aggregate-serve
+    (λ c. search needs)
     serve-requires
-    array-share-prefix-sites
+    (λ c. search needs)
     slice-aggregate-copy
     copy-requires
     total-of-requires
-    same-length
-    same-length-2
+    (λ c. search needs)
+    (λ c. search needs)
     returns)

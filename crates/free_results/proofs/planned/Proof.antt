@@ -8,12 +8,6 @@ use Rattle.free_results.proofs.Results.{at-most-list}
 use Rattle.free_results.proofs.planned.Statement.{statement}
 use Rattle.free_results.proofs.planned.Tie as tie
 
-add-size : tie.Need-add-size
-add-size c = search needs
-
-mul-size : tie.Need-mul-size
-mul-size c = search needs
-
 array-borrow-prefix-table : tie.Need-array-borrow-prefix-table
 array-borrow-prefix-table c =
     let a = c .before .before .before .args in
@@ -63,8 +57,8 @@ pub planned-spec : {M : Type 1} → statement M
 planned-spec =
     tie.close
     (tie.spec
-    add-size
-    mul-size
+    (λ c. search needs)
+    (λ c. search needs)
     array-borrow-prefix-table
     slice-aggregate-fill-values
     fill-values-requires

@@ -10,9 +10,6 @@ use Rattle.counting.specs.Lists.{at}
 use Rattle.free_results.proofs.total_of.Statement.{statement}
 use Rattle.free_results.proofs.total_of.Tie as tie
 
-array-share-prefix-bests : tie.Need-array-share-prefix-bests
-array-share-prefix-bests c = search needs
-
 slice-aggregate-sum : tie.Need-slice-aggregate-sum
 slice-aggregate-sum c =
     let a = c .before .before .args in
@@ -36,4 +33,4 @@ returns c =
 
 pub total-of-spec : {M : Type 1} → statement M
 total-of-spec =
-    tie.close (tie.spec array-share-prefix-bests slice-aggregate-sum sum-requires returns)
+    tie.close (tie.spec (λ c. search needs) slice-aggregate-sum sum-requires returns)

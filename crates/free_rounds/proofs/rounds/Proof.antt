@@ -28,12 +28,6 @@ loop-holds c = let t = c .taken .ensures in (omega arith, omega (arith, t .0 .0)
 round-requires : tie.Need-round-requires Inv-loop μ-loop
 round-requires c κs = let l = c .before .loop in let p = c .before .before .before .before .before .pre in (p .0, ((l .inv .3, l .inv .4), omega (arith, l .inv .1, p .1 .0)))
 
-add-i : tie.Need-add-i Inv-loop μ-loop
-add-i c = search needs
-
-loop-less : tie.Need-loop-less Inv-loop μ-loop
-loop-less c = search needs
-
 loop-again : tie.Need-loop-again Inv-loop μ-loop
 loop-again c =
     let a = c .before .before .before .before .before .before .args in
@@ -63,7 +57,7 @@ rounds-spec =
     taken-requires
     loop-holds
     round-requires
-    add-i
-    loop-less
+    (λ c. search needs)
+    (λ c. search needs)
     loop-again
     returns)

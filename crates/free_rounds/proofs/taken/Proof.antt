@@ -20,9 +20,6 @@ Inv-loop values n m sites state₀ i₀ i-end state i =
 abbrev μ-loop : tie.MeasureT-loop
 μ-loop values n m sites state₀ i₀ i-end state i = i-end - i
 
-empty-requires : tie.Need-empty-requires Inv-loop μ-loop
-empty-requires c κs = search needs
-
 loop-holds : tie.Need-loop-holds Inv-loop μ-loop
 loop-holds c =
     let a = c .before .before .before .args in
@@ -30,20 +27,11 @@ loop-holds c =
     let t = start-holds (siteValue (a .values .now) (a .n)) (a .n) (c .empty .result) (p .0 .few-streets) (λ s x. p .0 .small _) (c .empty .ensures) in
     (omega arith, refl, t .0, t .1, t .2, t .3)
 
-shared-slice-read-taking : tie.Need-shared-slice-read-taking Inv-loop μ-loop
-shared-slice-read-taking c = search needs
-
 taking-requires : tie.Need-taking-requires Inv-loop μ-loop
 taking-requires c κs =
     let l = c .before .before .loop in
     let p = c .before .before .before .before .before .before .pre in
     (p .0, ((l .inv .4, l .inv .5), (p .1 .1 (l .i), omega (arith, l .inv .2, p .1 .0))))
-
-add-i : tie.Need-add-i Inv-loop μ-loop
-add-i c = search needs
-
-loop-less : tie.Need-loop-less Inv-loop μ-loop
-loop-less c = search needs
 
 loop-again : tie.Need-loop-again Inv-loop μ-loop
 loop-again c =
@@ -70,11 +58,11 @@ taken-spec =
     (tie.spec
     Inv-loop
     μ-loop
-    empty-requires
+    (λ c κs. search needs)
     loop-holds
-    shared-slice-read-taking
+    (λ c. search needs)
     taking-requires
-    add-i
-    loop-less
+    (λ c. search needs)
+    (λ c. search needs)
     loop-again
     returns)

@@ -13,19 +13,10 @@ known c =
     let own = c .before .before .before .before .balance-refusal in
     balanced-tried (a .n) (a .m) (a .k) (a .scores .now) (a .rows .now) (a .division .now) (own .result) (survey .result) (survey .ensures) (c .before .before .if1 .left) (own .ensures)
 
-balance-refusal-requires : tie.Need-balance-refusal-requires
-balance-refusal-requires c κs = search needs
-
-survey-refusal-requires : tie.Need-survey-refusal-requires
-survey-refusal-requires c κs = search needs
-
 returns : tie.Need-returns
 returns c =
     let survey = rw (c .before .before .balance-refusal .ensures) at (c .before .survey-refusal .ensures) in
     or-stop _ _ _ survey (c .if1 .taken)
-
-ranges-refusal-requires : tie.Need-ranges-refusal-requires
-ranges-refusal-requires c κs = search needs
 
 returns-2 : tie.Need-returns-2
 returns-2 c =
@@ -55,10 +46,10 @@ pub balanced-hand-refusal-spec : {M : Type 1} → statement M
 balanced-hand-refusal-spec =
     tie.close
     (tie.spec
-    balance-refusal-requires
-    survey-refusal-requires
+    (λ c κs. search needs)
+    (λ c κs. search needs)
     returns
-    ranges-refusal-requires
+    (λ c κs. search needs)
     returns-2
     div-shared-refusal
     shared-refusal-requires

@@ -6,9 +6,6 @@ use mathlib.Core.Path.{sym, _∙_}
 use Rattle.hand_plans.proofs.claim_refusal.Statement.{statement}
 use Rattle.hand_plans.proofs.claim_refusal.Tie as tie
 
-plan-total-requires : tie.Need-plan-total-requires
-plan-total-requires c κs = search needs
-
 returns : tie.Need-returns
 returns c = unless-yes 19 _ (ne-eqb _ _ (λ e. c .if1 .taken (e ∙ sym (c .before .plan-total .ensures))))
 
@@ -16,4 +13,4 @@ returns-2 : tie.Need-returns-2
 returns-2 c = unless-none 19 _ (eq-eqb _ _ (c .if1 .left ∙ c .before .plan-total .ensures))
 
 pub claim-refusal-spec : {M : Type 1} → statement M
-claim-refusal-spec = tie.close (tie.spec plan-total-requires returns returns-2)
+claim-refusal-spec = tie.close (tie.spec (λ c κs. search needs) returns returns-2)

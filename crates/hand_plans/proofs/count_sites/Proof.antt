@@ -20,29 +20,11 @@ abbrev μ-loop : tie.MeasureT-loop
 loop-holds : tie.Need-loop-holds Inv-loop μ-loop
 loop-holds c = (search needs, refl, search needs)
 
-add-one-within : tie.Need-add-one-within Inv-loop μ-loop
-add-one-within c = search needs
-
-mul-one-within : tie.Need-mul-one-within Inv-loop μ-loop
-mul-one-within c = search needs
-
-element-copy-out-one-within : tie.Need-element-copy-out-one-within Inv-loop μ-loop
-element-copy-out-one-within c = search needs
-
-one-within-requires : tie.Need-one-within-requires Inv-loop μ-loop
-one-within-requires c κs = search needs
-
 add-sites : tie.Need-add-sites Inv-loop μ-loop
 add-sites c =
     let l = c .before .before .before .loop in
     let p = c .before .before .before .before .args in
     omega (arith, sites-more (between (p .least) (p .most)) (p .counts .now) (l .a) (l .sites) _ (l .inv .1) (l .inv .2) (c .one-within .ensures))
-
-add-a : tie.Need-add-a Inv-loop μ-loop
-add-a c = search needs
-
-loop-less : tie.Need-loop-less Inv-loop μ-loop
-loop-less c = search needs
 
 loop-again : tie.Need-loop-again Inv-loop μ-loop
 loop-again c =
@@ -61,12 +43,12 @@ count-sites-spec =
     Inv-loop
     μ-loop
     loop-holds
-    add-one-within
-    mul-one-within
-    element-copy-out-one-within
-    one-within-requires
+    (λ c. search needs)
+    (λ c. search needs)
+    (λ c. search needs)
+    (λ c κs. search needs)
     add-sites
-    add-a
-    loop-less
+    (λ c. search needs)
+    (λ c. search needs)
     loop-again
     returns)

@@ -13,19 +13,10 @@ known c =
     let own = c .before .before .before .before .length-refusal in
     free-tried (a .n) (a .m) (a .k) (a .scores .now) (a .rows .now) (a .division .now) (own .result) (survey .result) (survey .ensures) (c .before .before .if1 .left) (own .ensures)
 
-length-refusal-requires : tie.Need-length-refusal-requires
-length-refusal-requires c κs = search needs
-
-survey-refusal-requires : tie.Need-survey-refusal-requires
-survey-refusal-requires c κs = search needs
-
 returns : tie.Need-returns
 returns c =
     let survey = rw (c .before .before .length-refusal .ensures) at (c .before .survey-refusal .ensures) in
     or-stop _ _ _ survey (c .if1 .taken)
-
-ranges-refusal-requires : tie.Need-ranges-refusal-requires
-ranges-refusal-requires c κs = search needs
 
 returns-2 : tie.Need-returns-2
 returns-2 c =
@@ -52,10 +43,10 @@ pub free-hand-refusal-spec : {M : Type 1} → statement M
 free-hand-refusal-spec =
     tie.close
     (tie.spec
-    length-refusal-requires
-    survey-refusal-requires
+    (λ c κs. search needs)
+    (λ c κs. search needs)
     returns
-    ranges-refusal-requires
+    (λ c κs. search needs)
     returns-2
     used-refusal-requires
     returns-3

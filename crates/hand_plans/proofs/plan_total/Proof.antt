@@ -20,26 +20,11 @@ abbrev μ-loop : tie.MeasureT-loop
 loop-holds : tie.Need-loop-holds Inv-loop μ-loop
 loop-holds c = (search needs, refl, total-none _, search needs)
 
-shared-slice-read-street-score : tie.Need-shared-slice-read-street-score Inv-loop μ-loop
-shared-slice-read-street-score c = search needs
-
 street-score-requires : tie.Need-street-score-requires Inv-loop μ-loop
 street-score-requires c κs =
     let s = c .before .before in
     let p = s .before .before .before .before in
     omega (arith, row-within (length (p .args .division .now)) (p .args .m) (s .loop .s) (omega arith), p .pre .0)
-
-cast-total : tie.Need-cast-total Inv-loop μ-loop
-cast-total c = search needs
-
-add-total : tie.Need-add-total Inv-loop μ-loop
-add-total c = search needs
-
-add-s : tie.Need-add-s Inv-loop μ-loop
-add-s c = search needs
-
-loop-less : tie.Need-loop-less Inv-loop μ-loop
-loop-less c = search needs
 
 loop-again : tie.Need-loop-again Inv-loop μ-loop
 loop-again c =
@@ -57,11 +42,11 @@ plan-total-spec =
     Inv-loop
     μ-loop
     loop-holds
-    shared-slice-read-street-score
+    (λ c. search needs)
     street-score-requires
-    cast-total
-    add-total
-    add-s
-    loop-less
+    (λ c. search needs)
+    (λ c. search needs)
+    (λ c. search needs)
+    (λ c. search needs)
     loop-again
     returns)

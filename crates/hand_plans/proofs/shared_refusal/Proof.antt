@@ -7,9 +7,6 @@ use mathlib.Core.Path.{sym, _∙_}
 use Rattle.hand_plans.proofs.shared_refusal.Statement.{statement}
 use Rattle.hand_plans.proofs.shared_refusal.Tie as tie
 
-sites-within-requires : tie.Need-sites-within-requires
-sites-within-requires c κs = search needs
-
 returns : tie.Need-returns
 returns c =
     let a = c .before .before .before .args in
@@ -23,4 +20,4 @@ returns-2 c =
     unless-none 18 _ (eq-eqb _ _ (sym sites ∙ c .if1 .left))
 
 pub shared-refusal-spec : {M : Type 1} → statement M
-shared-refusal-spec = tie.close (tie.spec sites-within-requires returns returns-2)
+shared-refusal-spec = tie.close (tie.spec (λ c κs. search needs) returns returns-2)

@@ -6,12 +6,6 @@ use mathlib.Core.Path.{_∙_}
 use Rattle.hand_plans.proofs.sites_within.Statement.{statement}
 use Rattle.hand_plans.proofs.sites_within.Tie as tie
 
-count-streets-requires : tie.Need-count-streets-requires
-count-streets-requires c κs = search needs
-
-count-sites-requires : tie.Need-count-sites-requires
-count-sites-requires c κs = search needs
-
 returns : tie.Need-returns
 returns c =
     let a = c .before .before .before .before .args in
@@ -19,4 +13,4 @@ returns c =
     c .count-sites .ensures ∙ sites-counted (table .result) (a .division .now) (a .m) (between (a .least) (a .most)) (c .before .before .before .before .pre) (table .ensures)
 
 pub sites-within-spec : {M : Type 1} → statement M
-sites-within-spec = tie.close (tie.spec count-streets-requires count-sites-requires returns)
+sites-within-spec = tie.close (tie.spec (λ c κs. search needs) (λ c κs. search needs) returns)

@@ -8,24 +8,6 @@ use mathlib.Core.Path.{ap, _∙_}
 use Rattle.hand_plans.proofs.street_score.Statement.{statement}
 use Rattle.hand_plans.proofs.street_score.Tie as tie
 
-mul-from : tie.Need-mul-from
-mul-from c = search needs
-
-add-to : tie.Need-add-to
-add-to c = search needs
-
-sub-score : tie.Need-sub-score
-sub-score c = search needs
-
-part-score-start : tie.Need-part-score-start
-part-score-start c = search needs
-
-part-score-end : tie.Need-part-score-end
-part-score-end c = search needs
-
-score-requires : tie.Need-score-requires
-score-requires c κs = search needs
-
 returns : tie.Need-returns
 returns c =
     let a = c .before .before .before .before .args in
@@ -34,4 +16,4 @@ returns c =
 pub street-score-spec : {M : Type 1} → statement M
 street-score-spec =
     tie.close
-    (tie.spec mul-from add-to sub-score part-score-start part-score-end score-requires returns)
+    (tie.spec (λ c. search needs) (λ c. search needs) (λ c. search needs) (λ c. search needs) (λ c. search needs) (λ c κs. search needs) returns)

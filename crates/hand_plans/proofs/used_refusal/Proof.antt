@@ -8,9 +8,6 @@ use mathlib.Core.Path.{_∙_}
 use Rattle.hand_plans.proofs.used_refusal.Statement.{statement}
 use Rattle.hand_plans.proofs.used_refusal.Tie as tie
 
-sites-within-requires : tie.Need-sites-within-requires
-sites-within-requires c κs = search needs
-
 returns : tie.Need-returns
 returns c =
     let a = c .before .before .before .args in
@@ -22,4 +19,4 @@ returns-2 c =
     when-none 18 _ (le-ltb (a .k) _ (omega (arith, c .before .sites-within .ensures ∙ used-sites (a .m) (a .division .now))))
 
 pub used-refusal-spec : {M : Type 1} → statement M
-used-refusal-spec = tie.close (tie.spec sites-within-requires returns returns-2)
+used-refusal-spec = tie.close (tie.spec (λ c κs. search needs) returns returns-2)

@@ -21,15 +21,6 @@ ends : (c : tie.In-loop Inv-loop μ-loop) →
     c .before .loop .s * a .m + a .m ≤ length (a .rows .now)
 ends c = row-ends (c .before .before .before .before .before .before .before .before .pre .0) (omega arith)
 
-add-fill-last : tie.Need-add-fill-last Inv-loop μ-loop
-add-fill-last c = search needs
-
-cast-fill-last : tie.Need-cast-fill-last Inv-loop μ-loop
-cast-fill-last c = search needs
-
-fill-last-requires : tie.Need-fill-last-requires Inv-loop μ-loop
-fill-last-requires c κs = search needs
-
 loop-holds : tie.Need-loop-holds Inv-loop μ-loop
 loop-holds c = (search needs, keys-none _ _ _ _ _ (c .before .before .before .before .before .before .pre .1) (c .before .before .fill-last .ensures))
 
@@ -39,12 +30,6 @@ mul-low c = omega (arith, ends c)
 add-high : tie.Need-add-high Inv-loop μ-loop
 add-high c = omega (arith, ends c)
 
-sub-fill-street : tie.Need-sub-fill-street Inv-loop μ-loop
-sub-fill-street c = search needs
-
-part-fill-street-start : tie.Need-part-fill-street-start Inv-loop μ-loop
-part-fill-street-start c = search needs
-
 part-fill-street-end : tie.Need-part-fill-street-end Inv-loop μ-loop
 part-fill-street-end c = omega (arith, ends c)
 
@@ -53,12 +38,6 @@ fill-street-requires c κs =
     let l = c .before .before .before .loop in
     let ok = c .before .before .before .before .before .before .before .before .before .before .pre .0 in
     (street-sound ok (omega arith), (street-room ok (omega arith) (l .inv .1), street-last ok (omega arith) (l .inv .1)))
-
-add-s : tie.Need-add-s Inv-loop μ-loop
-add-s c = search needs
-
-loop-less : tie.Need-loop-less Inv-loop μ-loop
-loop-less c = search needs
 
 loop-again : tie.Need-loop-again Inv-loop μ-loop
 loop-again c =
@@ -79,18 +58,18 @@ fill-keys-spec =
     (tie.spec
     Inv-loop
     μ-loop
-    add-fill-last
-    cast-fill-last
-    fill-last-requires
+    (λ c. search needs)
+    (λ c. search needs)
+    (λ c κs. search needs)
     loop-holds
     mul-low
     add-high
-    sub-fill-street
-    part-fill-street-start
+    (λ c. search needs)
+    (λ c. search needs)
     part-fill-street-end
     fill-street-requires
-    add-s
-    loop-less
+    (λ c. search needs)
+    (λ c. search needs)
     loop-again
     same-length
     returns)

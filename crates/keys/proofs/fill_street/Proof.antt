@@ -27,20 +27,11 @@ spot c =
 loop-holds : tie.Need-loop-holds Inv-loop μ-loop
 loop-holds c = (search needs, refl, passed-none _ _ _ _ _ (c .pre .1 .1))
 
-shared-slice-read-b : tie.Need-shared-slice-read-b Inv-loop μ-loop
-shared-slice-read-b c = search needs
-
 same-length : tie.Need-same-length Inv-loop μ-loop
 same-length c = c .before .before .before .loop .inv .2 .size
 
 returns : tie.Need-returns Inv-loop μ-loop
 returns c = let p = c .before .before .before .before .pre in passed-stop (p .0) (p .1 .0) (c .before .before .before .loop .inv .2) (omega arith) (c .if1 .taken)
-
-add-keys : tie.Need-add-keys Inv-loop μ-loop
-add-keys c = search needs
-
-cast-keys : tie.Need-cast-keys Inv-loop μ-loop
-cast-keys c = search needs
 
 cast-keys-2 : tie.Need-cast-keys-2 Inv-loop μ-loop
 cast-keys-2 c = omega (arith, c .before .shared-slice-known .given (c .before .before .before .loop .j))
@@ -56,12 +47,6 @@ mul-keys-2 c = let q = spot c in omega arith
 
 slice-write-keys : tie.Need-slice-write-keys Inv-loop μ-loop
 slice-write-keys c = let q = spot c in omega arith
-
-add-j : tie.Need-add-j Inv-loop μ-loop
-add-j c = search needs
-
-loop-less : tie.Need-loop-less Inv-loop μ-loop
-loop-less c = search needs
 
 loop-again : tie.Need-loop-again Inv-loop μ-loop
 loop-again c =
@@ -82,18 +67,18 @@ fill-street-spec =
     Inv-loop
     μ-loop
     loop-holds
-    shared-slice-read-b
+    (λ c. search needs)
     same-length
     returns
-    add-keys
-    cast-keys
+    (λ c. search needs)
+    (λ c. search needs)
     cast-keys-2
     mul-keys
     add-keys-2
     mul-keys-2
     slice-write-keys
-    add-j
-    loop-less
+    (λ c. search needs)
+    (λ c. search needs)
     loop-again
     same-length-2
     returns-2)

@@ -21,12 +21,6 @@ abbrev μ-loop : tie.MeasureT-loop
 loop-holds : tie.Need-loop-holds Inv-loop μ-loop
 loop-holds c = (search needs, refl, mapped-none _ _, mapped-none _ _)
 
-mul-after : tie.Need-mul-after Inv-loop μ-loop
-mul-after c = search needs
-
-shared-slice-read-after : tie.Need-shared-slice-read-after Inv-loop μ-loop
-shared-slice-read-after c = search needs
-
 mul-after-2 : tie.Need-mul-after-2 Inv-loop μ-loop
 mul-after-2 c = let l = c .before .before .loop in omega (arith, l .inv .2 .size)
 
@@ -38,12 +32,6 @@ mul-via c = let l = c .before .before .loop in omega (arith, l .inv .3 .size)
 
 slice-write-via : tie.Need-slice-write-via Inv-loop μ-loop
 slice-write-via c = let l = c .before .before .loop in omega (arith, l .inv .3 .size)
-
-add-b : tie.Need-add-b Inv-loop μ-loop
-add-b c = search needs
-
-loop-less : tie.Need-loop-less Inv-loop μ-loop
-loop-less c = search needs
 
 loop-again : tie.Need-loop-again Inv-loop μ-loop
 loop-again c =
@@ -69,14 +57,14 @@ begin-spec =
     Inv-loop
     μ-loop
     loop-holds
-    mul-after
-    shared-slice-read-after
+    (λ c. search needs)
+    (λ c. search needs)
     mul-after-2
     slice-write-after
     mul-via
     slice-write-via
-    add-b
-    loop-less
+    (λ c. search needs)
+    (λ c. search needs)
     loop-again
     same-length
     same-length-2

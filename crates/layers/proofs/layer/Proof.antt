@@ -45,12 +45,6 @@ pass-requires c κs =
     let l = c .before .before .before .loop in
     (p .0, (p .1 .0, (record { after-fits = l .inv .2; via-fits = l .inv .3; shares-fit = f .shares-fit; few = f .few; few-sites = f .few-sites }, (omega arith, l .inv .4))))
 
-add-a : tie.Need-add-a Inv-loop μ-loop
-add-a c = search needs
-
-loop-less : tie.Need-loop-less Inv-loop μ-loop
-loop-less c = search needs
-
 loop-again : tie.Need-loop-again Inv-loop μ-loop
 loop-again c = (omega arith, refl, search needs, search needs, c .before .before .before .before .pass .ensures)
 
@@ -80,8 +74,8 @@ layer-spec =
     begin-requires
     loop-holds
     pass-requires
-    add-a
-    loop-less
+    (λ c. search needs)
+    (λ c. search needs)
     loop-again
     same-length
     same-length-2

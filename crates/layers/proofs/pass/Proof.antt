@@ -39,15 +39,6 @@ relax-requires c κs =
     let p = c .before .before .before .before .before .before .before .before .before .before .before .before .pre in
     (p .0, (p .1 .0, (p .1 .1 .0, ((p .1 .1 .1 .0, omega (arith, c .before .before .if1 .left)), p .1 .1 .1 .1))))
 
-same-length : tie.Need-same-length
-same-length c = search needs
-
-same-length-2 : tie.Need-same-length-2
-same-length-2 c = search needs
-
-returns-2 : tie.Need-returns-2
-returns-2 c = search needs
-
 pub pass-spec : {M : Type 1} → statement M
 pass-spec =
     tie.close
@@ -57,6 +48,6 @@ pass-spec =
     shared-slice-read-if1
     returns
     relax-requires
-    same-length
-    same-length-2
-    returns-2)
+    (λ c. search needs)
+    (λ c. search needs)
+    (λ c. search needs))

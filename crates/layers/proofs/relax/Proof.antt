@@ -29,28 +29,10 @@ ends c =
 mul-from : tie.Need-mul-from Inv-loop μ-loop
 mul-from c = omega (arith, ends (c .before .before .before .before .before .before .before .before))
 
-mul-price : tie.Need-mul-price Inv-loop μ-loop
-mul-price c = search needs
-
-shared-slice-read-price : tie.Need-shared-slice-read-price Inv-loop μ-loop
-shared-slice-read-price c = search needs
-
 loop-holds : tie.Need-loop-holds Inv-loop μ-loop
 loop-holds c =
     let p = c .before .before .before .before .before .before .before .before .before .pre in
     (search needs, p .1 .1 .0 .after-fits, p .1 .1 .0 .via-fits, relaxing-start _ _ _ _ _ _ _ _ _ (p .1 .1 .1 .1))
-
-mul-take : tie.Need-mul-take Inv-loop μ-loop
-mul-take c = search needs
-
-slice-read-take : tie.Need-slice-read-take Inv-loop μ-loop
-slice-read-take c = search needs
-
-mul-take-2 : tie.Need-mul-take-2 Inv-loop μ-loop
-mul-take-2 c = search needs
-
-slice-read-take-2 : tie.Need-slice-read-take-2 Inv-loop μ-loop
-slice-read-take-2 c = search needs
 
 mul-take-3 : tie.Need-mul-take-3 Inv-loop μ-loop
 mul-take-3 c =
@@ -92,24 +74,6 @@ take-requires c κs =
     let l = c .before .before .before .before .before .before .loop in
     lift-small _ _ _ _ _ _ _ _ _ (p .0 .low) (λ s b. p .0 .small _) (l .inv .3 .rest (l .b) (omega arith) (omega arith))
 
-mul-after : tie.Need-mul-after Inv-loop μ-loop
-mul-after c = search needs
-
-slice-write-after : tie.Need-slice-write-after Inv-loop μ-loop
-slice-write-after c = search needs
-
-mul-via : tie.Need-mul-via Inv-loop μ-loop
-mul-via c = search needs
-
-slice-write-via : tie.Need-slice-write-via Inv-loop μ-loop
-slice-write-via c = search needs
-
-add-b : tie.Need-add-b Inv-loop μ-loop
-add-b c = search needs
-
-loop-less : tie.Need-loop-less Inv-loop μ-loop
-loop-less c = search needs
-
 loop-again : tie.Need-loop-again Inv-loop μ-loop
 loop-again c =
     let a = c .before .before .before .before .before .before .before .before .before .before .before .before .before .before .before .before .before .args in
@@ -137,13 +101,13 @@ relax-spec =
     Inv-loop
     μ-loop
     mul-from
-    mul-price
-    shared-slice-read-price
+    (λ c. search needs)
+    (λ c. search needs)
     loop-holds
-    mul-take
-    slice-read-take
-    mul-take-2
-    slice-read-take-2
+    (λ c. search needs)
+    (λ c. search needs)
+    (λ c. search needs)
+    (λ c. search needs)
     mul-take-3
     shared-slice-read-take
     add-take
@@ -154,12 +118,12 @@ relax-spec =
     mul-take-5
     shared-slice-read-take-3
     take-requires
-    mul-after
-    slice-write-after
-    mul-via
-    slice-write-via
-    add-b
-    loop-less
+    (λ c. search needs)
+    (λ c. search needs)
+    (λ c. search needs)
+    (λ c. search needs)
+    (λ c. search needs)
+    (λ c. search needs)
     loop-again
     same-length
     same-length-2

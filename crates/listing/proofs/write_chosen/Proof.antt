@@ -10,12 +10,6 @@ use Rattle.listing.proofs.Rooms.{front-room, next-room, byte-room, byte
 use Rattle.listing.proofs.write_chosen.Statement.{statement}
 use Rattle.listing.proofs.write_chosen.Tie as tie
 
-slice-aggregate-write-list : tie.Need-slice-aggregate-write-list
-slice-aggregate-write-list c = search needs
-
-write-list-requires : tie.Need-write-list-requires
-write-list-requires c κs = search needs
-
 write-sites-requires : tie.Need-write-sites-requires
 write-sites-requires c κs =
     let a = c .before .before .before .before .before .before .before .before .args in
@@ -24,9 +18,6 @@ write-sites-requires c κs =
 
 slice-write-out : tie.Need-slice-write-out
 slice-write-out c = byte-room 10 (written-next (c .before .before .before .before .before .before .write-list .ensures) (c .before .before .write-sites .ensures)) (c .before .before .before .before .before .before .before .before .before .before .before .pre)
-
-add-result : tie.Need-add-result
-add-result c = search needs
 
 same-length : tie.Need-same-length
 same-length c = written-size (byte-written 10 (written-next (c .before .before .before .before .before .before .write-list .ensures) (c .before .before .write-sites .ensures)) (c .before .before .before .before .before .before .before .before .before .before .before .pre))
@@ -38,10 +29,10 @@ pub write-chosen-spec : {M : Type 1} → statement M
 write-chosen-spec =
     tie.close
     (tie.spec
-    slice-aggregate-write-list
-    write-list-requires
+    (λ c. search needs)
+    (λ c κs. search needs)
     write-sites-requires
     slice-write-out
-    add-result
+    (λ c. search needs)
     same-length
     returns)

@@ -24,9 +24,6 @@ slice-write-out : tie.Need-slice-write-out
 unfolding joined
 slice-write-out c = byte-room 10 (written-next (c .before .before .before .before .before .before .write-list .ensures) (c .before .before .write-spaced .ensures)) (c .before .before .before .before .before .before .before .before .before .before .pre)
 
-add-result : tie.Need-add-result
-add-result c = search needs
-
 same-length : tie.Need-same-length
 unfolding joined
 same-length c = written-size (byte-written 10 (written-next (c .before .before .before .before .before .before .write-list .ensures) (c .before .before .write-spaced .ensures)) (c .before .before .before .before .before .before .before .before .before .before .pre))
@@ -42,6 +39,6 @@ write-line-spec =
     write-list-requires
     write-spaced-requires
     slice-write-out
-    add-result
+    (λ c. search needs)
     same-length
     returns)

@@ -19,9 +19,6 @@ lines-room c =
     let a = c .args in
     front-room 0 _ (line totalWord (a .total ∷ []) ++ line sitesWord (a .sites .now)) (joined (length (a .division .now)) (streetLine (a .m) (a .rows .now) (a .division .now))) (room c)
 
-slice-aggregate-write-line : tie.Need-slice-aggregate-write-line
-slice-aggregate-write-line c = search needs
-
 write-line-requires : tie.Need-write-line-requires
 write-line-requires c κs = let a = c .before .before .before .before .before .before .args in front-room 0 _ (line totalWord (a .total ∷ [])) (line sitesWord (a .sites .now)) (lines-room (c .before .before .before .before .before .before))
 
@@ -34,9 +31,6 @@ write-streets-requires c κs =
     let streets = joined (length (a .division .now)) (streetLine (a .m) (a .rows .now) (a .division .now)) in
     (c .before .before .before .before .before .before .before .before .before .before .before .before .before .before .pre .0, next-room streets (written-next (c .before .before .before .before .before .before .before .write-line .ensures) (c .before .before .before .write-chosen .ensures)) (room (c .before .before .before .before .before .before .before .before .before .before .before .before .before .before)))
 
-same-length : tie.Need-same-length
-same-length c = search needs
-
 returns : tie.Need-returns
 returns c = written-next (written-next (c .before .before .before .before .before .before .before .before .before .before .write-line .ensures) (c .before .before .before .before .before .before .write-chosen .ensures)) (c .before .before .write-streets .ensures)
 
@@ -44,9 +38,9 @@ pub write-listing-spec : {M : Type 1} → statement M
 write-listing-spec =
     tie.close
     (tie.spec
-    slice-aggregate-write-line
+    (λ c. search needs)
     write-line-requires
     write-chosen-requires
     write-streets-requires
-    same-length
+    (λ c. search needs)
     returns)

@@ -21,9 +21,6 @@ abbrev μ-loop : tie.MeasureT-loop
 loop-holds : tie.Need-loop-holds Inv-loop μ-loop
 loop-holds c = let a = c .before .before .args in (search needs, refl, turns-none (a .out .now) (a .i) _ (omega (arith, c .before .before .pre)))
 
-shared-slice-read-write-spaced : tie.Need-shared-slice-read-write-spaced Inv-loop μ-loop
-shared-slice-read-write-spaced c = search needs
-
 cast-write-spaced : tie.Need-cast-write-spaced Inv-loop μ-loop
 cast-write-spaced c = omega (arith, c .shared-slice-known2 .given (c .before .before .loop .j))
 
@@ -31,12 +28,6 @@ write-spaced-requires : tie.Need-write-spaced-requires Inv-loop μ-loop
 write-spaced-requires c κs =
     let a = c .before .before .before .before .before .before .args in
     turns-room (λ k. spaced (at (a .sites .now) k)) (c .before .before .before .loop .inv .2) (length (a .sites .now)) (omega arith) (c .before .before .before .before .before .before .pre)
-
-add-j : tie.Need-add-j Inv-loop μ-loop
-add-j c = search needs
-
-loop-less : tie.Need-loop-less Inv-loop μ-loop
-loop-less c = search needs
 
 loop-again : tie.Need-loop-again Inv-loop μ-loop
 loop-again c = (omega arith, refl, turns-more _ (c .before .before .before .before .before .before .loop .inv .2) (c .before .before .write-spaced .ensures))
@@ -54,11 +45,11 @@ write-sites-spec =
     Inv-loop
     μ-loop
     loop-holds
-    shared-slice-read-write-spaced
+    (λ c. search needs)
     cast-write-spaced
     write-spaced-requires
-    add-j
-    loop-less
+    (λ c. search needs)
+    (λ c. search needs)
     loop-again
     same-length
     returns)

@@ -6,12 +6,6 @@ use Rattle.file_writer.proofs.Laying.{written-size, written-byte, written-next}
 use Rattle.listing.proofs.write_spaced.Statement.{statement}
 use Rattle.listing.proofs.write_spaced.Tie as tie
 
-slice-write-out : tie.Need-slice-write-out
-slice-write-out c = search needs
-
-add-write-decimal : tie.Need-add-write-decimal
-add-write-decimal c = search needs
-
 write-decimal-requires : tie.Need-write-decimal-requires
 write-decimal-requires c κs = let a = c .before .before .args in omega (arith, c .before .before .pre, length-set (a .out .now) (a .i) 32)
 
@@ -24,4 +18,4 @@ returns c = let a = c .before .before .before .before .before .args in written-n
 pub write-spaced-spec : {M : Type 1} → statement M
 write-spaced-spec =
     tie.close
-    (tie.spec slice-write-out add-write-decimal write-decimal-requires same-length returns)
+    (tie.spec (λ c. search needs) (λ c. search needs) write-decimal-requires same-length returns)

@@ -46,21 +46,6 @@ street c =
     let found = c .before .before .before .before .before .before .before .before .before .before .before .before .before .before .before .before .before .place-of in
     street-written (a .m) (a .rows .now) (a .division .now) (a .s) (found .result) (found .ensures) (byte-written 10 (parts c) (room (c .before .before .before .before .before .before .before .before .before .before .before .before .before .before .before .before .before)))
 
-shared-slice-read-site : tie.Need-shared-slice-read-site
-shared-slice-read-site c = search needs
-
-place-of-requires : tie.Need-place-of-requires
-place-of-requires c κs = search needs
-
-slice-aggregate-write-list : tie.Need-slice-aggregate-write-list
-slice-aggregate-write-list c = search needs
-
-write-list-requires : tie.Need-write-list-requires
-write-list-requires c κs = search needs
-
-add-write-spaced : tie.Need-add-write-spaced
-add-write-spaced c = search needs
-
 write-spaced-requires : tie.Need-write-spaced-requires
 write-spaced-requires c κs =
     let a = c .before .before .before .before .before .before .before .before .before .before .before .args in
@@ -84,9 +69,6 @@ write-spaced-requires-3 c κs = next-room (spaced (c .before .before .before .be
 slice-write-out : tie.Need-slice-write-out
 slice-write-out c = byte-room 10 (parts c) (room (c .before .before .before .before .before .before .before .before .before .before .before .before .before .before .before .before .before))
 
-add-result : tie.Need-add-result
-add-result c = search needs
-
 same-length : tie.Need-same-length
 same-length c = written-size (street c)
 
@@ -97,16 +79,16 @@ pub write-street-spec : {M : Type 1} → statement M
 write-street-spec =
     tie.close
     (tie.spec
-    shared-slice-read-site
-    place-of-requires
-    slice-aggregate-write-list
-    write-list-requires
-    add-write-spaced
+    (λ c. search needs)
+    (λ c κs. search needs)
+    (λ c. search needs)
+    (λ c κs. search needs)
+    (λ c. search needs)
     write-spaced-requires
     cast-write-spaced
     write-spaced-requires-2
     write-spaced-requires-3
     slice-write-out
-    add-result
+    (λ c. search needs)
     same-length
     returns)

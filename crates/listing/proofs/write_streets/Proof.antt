@@ -29,12 +29,6 @@ write-street-requires c κs =
     let n = length (a .division .now) in
     ((omega arith, omega (arith, row-within n (a .m) (l .s) (omega arith), c .before .before .before .before .before .before .pre .0)), turns-room (streetLine (a .m) (a .rows .now) (a .division .now)) (l .inv .2) n (omega arith) (c .before .before .before .before .before .before .pre .1))
 
-add-s : tie.Need-add-s Inv-loop μ-loop
-add-s c = search needs
-
-loop-less : tie.Need-loop-less Inv-loop μ-loop
-loop-less c = search needs
-
 loop-again : tie.Need-loop-again Inv-loop μ-loop
 loop-again c = (omega arith, refl, turns-more _ (c .before .before .before .before .before .loop .inv .2) (c .before .before .write-street .ensures))
 
@@ -52,8 +46,8 @@ write-streets-spec =
     μ-loop
     loop-holds
     write-street-requires
-    add-s
-    loop-less
+    (λ c. search needs)
+    (λ c. search needs)
     loop-again
     same-length
     returns)

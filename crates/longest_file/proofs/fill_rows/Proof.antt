@@ -15,33 +15,6 @@ abbrev μ-loop : tie.MeasureT-loop
 loop-holds : tie.Need-loop-holds Inv-loop μ-loop
 loop-holds c = (search needs, refl, refl)
 
-add-rows : tie.Need-add-rows Inv-loop μ-loop
-add-rows c = search needs
-
-add-rows-2 : tie.Need-add-rows-2 Inv-loop μ-loop
-add-rows-2 c = search needs
-
-cast-rows : tie.Need-cast-rows Inv-loop μ-loop
-cast-rows c = search needs
-
-slice-write-rows : tie.Need-slice-write-rows Inv-loop μ-loop
-slice-write-rows c = search needs
-
-add-i : tie.Need-add-i Inv-loop μ-loop
-add-i c = search needs
-
-loop-less : tie.Need-loop-less Inv-loop μ-loop
-loop-less c = search needs
-
-loop-again : tie.Need-loop-again Inv-loop μ-loop
-loop-again c = search needs
-
-same-length : tie.Need-same-length Inv-loop μ-loop
-same-length c = search needs
-
-returns : tie.Need-returns Inv-loop μ-loop
-returns c = search needs
-
 pub fill-rows-spec : {M : Type 1} → statement M
 fill-rows-spec =
     tie.close
@@ -49,12 +22,12 @@ fill-rows-spec =
     Inv-loop
     μ-loop
     loop-holds
-    add-rows
-    add-rows-2
-    cast-rows
-    slice-write-rows
-    add-i
-    loop-less
-    loop-again
-    same-length
-    returns)
+    (λ c. search needs)
+    (λ c. search needs)
+    (λ c. search needs)
+    (λ c. search needs)
+    (λ c. search needs)
+    (λ c. search needs)
+    (λ c. search needs)
+    (λ c. search needs)
+    (λ c. search needs))

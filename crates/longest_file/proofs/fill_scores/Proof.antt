@@ -15,33 +15,6 @@ abbrev μ-loop : tie.MeasureT-loop
 loop-holds : tie.Need-loop-holds Inv-loop μ-loop
 loop-holds c = (search needs, refl, refl)
 
-sub-scores : tie.Need-sub-scores Inv-loop μ-loop
-sub-scores c = search needs
-
-cast-scores : tie.Need-cast-scores Inv-loop μ-loop
-cast-scores c = search needs
-
-mul-scores : tie.Need-mul-scores Inv-loop μ-loop
-mul-scores c = search needs
-
-slice-write-scores : tie.Need-slice-write-scores Inv-loop μ-loop
-slice-write-scores c = search needs
-
-add-i : tie.Need-add-i Inv-loop μ-loop
-add-i c = search needs
-
-loop-less : tie.Need-loop-less Inv-loop μ-loop
-loop-less c = search needs
-
-loop-again : tie.Need-loop-again Inv-loop μ-loop
-loop-again c = search needs
-
-same-length : tie.Need-same-length Inv-loop μ-loop
-same-length c = search needs
-
-returns : tie.Need-returns Inv-loop μ-loop
-returns c = search needs
-
 pub fill-scores-spec : {M : Type 1} → statement M
 fill-scores-spec =
     tie.close
@@ -49,12 +22,12 @@ fill-scores-spec =
     Inv-loop
     μ-loop
     loop-holds
-    sub-scores
-    cast-scores
-    mul-scores
-    slice-write-scores
-    add-i
-    loop-less
-    loop-again
-    same-length
-    returns)
+    (λ c. search needs)
+    (λ c. search needs)
+    (λ c. search needs)
+    (λ c. search needs)
+    (λ c. search needs)
+    (λ c. search needs)
+    (λ c. search needs)
+    (λ c. search needs)
+    (λ c. search needs))

@@ -29,24 +29,12 @@ renew-requires c κs =
     let l = c .before .before .before .loop in
     (p .0, (omega arith, l .inv .1, l .inv .2))
 
-add-a : tie.Need-add-a Inv-loop μ-loop
-add-a c = search needs
-
-loop-less : tie.Need-loop-less Inv-loop μ-loop
-loop-less c = search needs
-
 loop-again : tie.Need-loop-again Inv-loop μ-loop
 loop-again c =
     let a = c .before .before .before .before .before .before .before .before .before .before .before .before .before .args in
     let l = c .before .before .before .before .before .before .before .before .loop in
     let next = mended-more _ _ _ (λ x. x) (l .a) (a .w) _ _ _ _ (c .before .before .before .before .renew .ensures) (l .inv .3) in
     (omega arith, search needs, search needs, next)
-
-same-length : tie.Need-same-length Inv-loop μ-loop
-same-length c = search needs
-
-same-length-2 : tie.Need-same-length-2 Inv-loop μ-loop
-same-length-2 c = search needs
 
 returns : tie.Need-returns Inv-loop μ-loop
 returns c = let l = c .before .loop in mended-all _ _ _ (λ x. x) (l .a) _ _ _ (omega arith) (l .inv .1) (l .inv .2) (l .inv .3)
@@ -59,9 +47,9 @@ build-spec =
     μ-loop
     loop-holds
     renew-requires
-    add-a
-    loop-less
+    (λ c. search needs)
+    (λ c. search needs)
     loop-again
-    same-length
-    same-length-2
+    (λ c. search needs)
+    (λ c. search needs)
     returns)

@@ -18,14 +18,8 @@ Inv-loop values division w sites from count pairs₀ gains₀ to i₀ pairs gain
 abbrev μ-loop : tie.MeasureT-loop
 μ-loop values division w sites from count pairs₀ gains₀ to i₀ pairs gains i = from + count - i
 
-add-to : tie.Need-add-to Inv-loop μ-loop
-add-to c = search needs
-
 loop-holds : tie.Need-loop-holds Inv-loop μ-loop
 loop-holds c = (search needs, search needs, search needs, search needs, c .before .before .before .before .before .pre .1 .1 .1)
-
-shared-slice-read-renew : tie.Need-shared-slice-read-renew Inv-loop μ-loop
-shared-slice-read-renew c = search needs
 
 cast-renew : tie.Need-cast-renew Inv-loop μ-loop
 cast-renew c = omega (arith, c .shared-slice-known4 .given (c .before .before .loop .i))
@@ -36,24 +30,12 @@ renew-requires c κs =
     let l = c .before .before .before .before .loop in
     (p .0, (p .1 .1 .0 (l .i) (l .inv .0) (omega arith), l .inv .2, l .inv .3))
 
-add-i : tie.Need-add-i Inv-loop μ-loop
-add-i c = search needs
-
-loop-less : tie.Need-loop-less Inv-loop μ-loop
-loop-less c = search needs
-
 loop-again : tie.Need-loop-again Inv-loop μ-loop
 loop-again c =
     let a = c .before .before .before .before .before .before .before .before .before .before .before .before .before .before .before .args in
     let l = c .before .before .before .before .before .before .before .before .before .loop in
     let next = mended-more _ _ _ (at (a .sites .now)) (l .i) (a .from + a .count) _ _ _ _ (c .before .before .before .before .renew .ensures) (l .inv .4) in
     (omega arith, omega arith, search needs, search needs, next)
-
-same-length : tie.Need-same-length Inv-loop μ-loop
-same-length c = search needs
-
-same-length-2 : tie.Need-same-length-2 Inv-loop μ-loop
-same-length-2 c = search needs
 
 returns : tie.Need-returns Inv-loop μ-loop
 returns c = let l = c .before .loop in mended-all _ _ _ _ (l .i) _ _ _ (omega arith) (l .inv .2) (l .inv .3) (l .inv .4)
@@ -64,14 +46,14 @@ mend-spec =
     (tie.spec
     Inv-loop
     μ-loop
-    add-to
+    (λ c. search needs)
     loop-holds
-    shared-slice-read-renew
+    (λ c. search needs)
     cast-renew
     renew-requires
-    add-i
-    loop-less
+    (λ c. search needs)
+    (λ c. search needs)
     loop-again
-    same-length
-    same-length-2
+    (λ c. search needs)
+    (λ c. search needs)
     returns)

@@ -26,35 +26,14 @@ add-to c = omega (arith, ends (c .before .before .before .before))
 mul-rebuild : tie.Need-mul-rebuild
 mul-rebuild c = omega (arith, ends (c .before .before .before .before))
 
-sub-rebuild : tie.Need-sub-rebuild
-sub-rebuild c = search needs
-
-part-rebuild-start : tie.Need-part-rebuild-start
-part-rebuild-start c = search needs
-
 part-rebuild-end : tie.Need-part-rebuild-end
 part-rebuild-end c = omega (arith, ends (c .before .before .before .before))
 
 mul-rebuild-2 : tie.Need-mul-rebuild-2
 mul-rebuild-2 c = omega (arith, ends (c .before .before .before .before .before))
 
-sub-rebuild-2 : tie.Need-sub-rebuild-2
-sub-rebuild-2 c = search needs
-
-part-rebuild-start-2 : tie.Need-part-rebuild-start-2
-part-rebuild-start-2 c = search needs
-
 part-rebuild-end-2 : tie.Need-part-rebuild-end-2
 part-rebuild-end-2 c = omega (arith, ends (c .before .before .before .before .before))
-
-rebuild-requires : tie.Need-rebuild-requires
-rebuild-requires c κs = search needs
-
-same-length : tie.Need-same-length
-same-length c = search needs
-
-same-length-2 : tie.Need-same-length-2
-same-length-2 c = search needs
 
 returns : tie.Need-returns
 returns c =
@@ -70,14 +49,14 @@ renew-spec =
     mul-from
     add-to
     mul-rebuild
-    sub-rebuild
-    part-rebuild-start
+    (λ c. search needs)
+    (λ c. search needs)
     part-rebuild-end
     mul-rebuild-2
-    sub-rebuild-2
-    part-rebuild-start-2
+    (λ c. search needs)
+    (λ c. search needs)
     part-rebuild-end-2
-    rebuild-requires
-    same-length
-    same-length-2
+    (λ c κs. search needs)
+    (λ c. search needs)
+    (λ c. search needs)
     returns)

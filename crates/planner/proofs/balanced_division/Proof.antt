@@ -8,12 +8,6 @@ use Rattle.planner.proofs.Evenly.{shareable, balanced-division-given}
 use Rattle.planner.proofs.balanced_division.Statement.{statement}
 use Rattle.planner.proofs.balanced_division.Tie as tie
 
-balanced-division-refusal-requires : tie.Need-balanced-division-refusal-requires
-balanced-division-refusal-requires c κs = search needs
-
-same-length : tie.Need-same-length
-same-length c = search needs
-
 returns : tie.Need-returns
 returns c =
     let e = c .before .balanced-division-refusal .ensures in
@@ -26,9 +20,6 @@ divide-requires c κs =
     let e = sym (c .before .before .balanced-division-refusal .ensures) ∙ c .before .if1 .left in
     ((balanced-division-listed (a .n) (a .m) (a .scores .now) (a .rows .now) (a .sites .now) (a .division .now) e .called .survey, shareable (a .n) (a .m) (a .scores .now) (a .rows .now) (a .sites .now) (a .division .now) e), balanced-division-fits (a .n) (a .m) (a .scores .now) (a .rows .now) (a .sites .now) (a .division .now) e)
 
-same-length-2 : tie.Need-same-length-2
-same-length-2 c = search needs
-
 returns-2 : tie.Need-returns-2
 returns-2 c =
     let a = c .before .before .before .before .before .before .before .before .before .before .before .args in
@@ -39,9 +30,9 @@ pub balanced-division-spec : {M : Type 1} → statement M
 balanced-division-spec =
     tie.close
     (tie.spec
-    balanced-division-refusal-requires
-    same-length
+    (λ c κs. search needs)
+    (λ c. search needs)
     returns
     divide-requires
-    same-length-2
+    (λ c. search needs)
     returns-2)

@@ -6,9 +6,6 @@ use Rattle.refusals.proofs.Passed.{balanced-claimed}
 use Rattle.planner.proofs.balanced_hand.Statement.{statement}
 use Rattle.planner.proofs.balanced_hand.Tie as tie
 
-balanced-hand-refusal-requires : tie.Need-balanced-hand-refusal-requires
-balanced-hand-refusal-requires c κs = search needs
-
 returns : tie.Need-returns
 returns c = search answers
 
@@ -20,4 +17,4 @@ returns-2 c =
     (balanced-claimed (a .n) (a .m) (a .k) (a .scores .now) (a .rows .now) (a .division .now) (a .claimed) (sym (tried .ensures) ∙ c .if1 .left))
 
 pub balanced-hand-spec : {M : Type 1} → statement M
-balanced-hand-spec = tie.close (tie.spec balanced-hand-refusal-requires returns returns-2)
+balanced-hand-spec = tie.close (tie.spec (λ c κs. search needs) returns returns-2)

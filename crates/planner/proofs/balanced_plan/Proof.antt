@@ -10,15 +10,6 @@ use Rattle.planner.proofs.Evenly.{even-length, balanced-plan-given}
 use Rattle.planner.proofs.balanced_plan.Statement.{statement}
 use Rattle.planner.proofs.balanced_plan.Tie as tie
 
-balanced-plan-refusal-requires : tie.Need-balanced-plan-refusal-requires
-balanced-plan-refusal-requires c κs = search needs
-
-same-length : tie.Need-same-length
-same-length c = search needs
-
-same-length-2 : tie.Need-same-length-2
-same-length-2 c = search needs
-
 returns : tie.Need-returns
 returns c =
     let e = c .before .balanced-plan-refusal .ensures in
@@ -33,12 +24,6 @@ plan-requires c κs =
     let size = balanced-plan-fits (a .n) (a .m) (a .k) (a .scores .now) (a .rows .now) (a .division .now) (a .chosen .now) e in
     ((call .survey, omega (arith, size .1, call .some), omega (arith, size .1, call .few), even-length (a .n) (a .k) (length (a .chosen .now)) (size .1) (balanced-plan-even (a .n) (a .m) (a .k) (a .scores .now) (a .rows .now) (a .division .now) (a .chosen .now) e)), size .0)
 
-same-length-3 : tie.Need-same-length-3
-same-length-3 c = search needs
-
-same-length-4 : tie.Need-same-length-4
-same-length-4 c = search needs
-
 returns-2 : tie.Need-returns-2
 returns-2 c =
     let a = c .before .before .before .before .before .before .before .before .before .before .before .before .before .before .before .args in
@@ -49,11 +34,11 @@ pub balanced-plan-spec : {M : Type 1} → statement M
 balanced-plan-spec =
     tie.close
     (tie.spec
-    balanced-plan-refusal-requires
-    same-length
-    same-length-2
+    (λ c κs. search needs)
+    (λ c. search needs)
+    (λ c. search needs)
     returns
     plan-requires
-    same-length-3
-    same-length-4
+    (λ c. search needs)
+    (λ c. search needs)
     returns-2)

@@ -4,9 +4,6 @@ use Rattle.planner.proofs.Laws.{answers}
 use Rattle.planner.proofs.check_survey.Statement.{statement}
 use Rattle.planner.proofs.check_survey.Tie as tie
 
-survey-refusal-requires : tie.Need-survey-refusal-requires
-survey-refusal-requires c κs = search needs
-
 returns : tie.Need-returns
 returns c = search answers
 
@@ -14,4 +11,4 @@ returns-2 : tie.Need-returns-2
 returns-2 c = search answers
 
 pub check-survey-spec : {M : Type 1} → statement M
-check-survey-spec = tie.close (tie.spec survey-refusal-requires returns returns-2)
+check-survey-spec = tie.close (tie.spec (λ c κs. search needs) returns returns-2)

@@ -6,9 +6,6 @@ use Rattle.refusals.proofs.Listed.{floor-called}
 use Rattle.planner.proofs.floor.Statement.{statement}
 use Rattle.planner.proofs.floor.Tie as tie
 
-floor-refusal-requires : tie.Need-floor-refusal-requires
-floor-refusal-requires c κs = search needs
-
 returns : tie.Need-returns
 returns c = search answers
 
@@ -22,4 +19,4 @@ returns-2 : tie.Need-returns-2
 returns-2 c = search answers
 
 pub floor-spec : {M : Type 1} → statement M
-floor-spec = tie.close (tie.spec floor-refusal-requires returns floor-requires returns-2)
+floor-spec = tie.close (tie.spec (λ c κs. search needs) returns floor-requires returns-2)

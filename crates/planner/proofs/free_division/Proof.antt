@@ -6,12 +6,6 @@ use Rattle.refusals.proofs.Listed.{free-division-listed, free-division-fits, li
 use Rattle.planner.proofs.free_division.Statement.{statement}
 use Rattle.planner.proofs.free_division.Tie as tie
 
-free-division-refusal-requires : tie.Need-free-division-refusal-requires
-free-division-refusal-requires c κs = search needs
-
-same-length : tie.Need-same-length
-same-length c = search needs
-
 returns : tie.Need-returns
 returns c = (search answers, kept-refused _ _ _ _ (c .before .free-division-refusal .ensures) (c .if1 .taken))
 
@@ -21,9 +15,6 @@ divide-requires c κs =
     let e = sym (c .before .before .free-division-refusal .ensures) ∙ c .before .if1 .left in
     let l = free-division-listed (a .n) (a .m) (a .scores .now) (a .rows .now) (a .sites .now) (a .division .now) e in
     ((l .called .survey, l .called .few, list-low (a .m) (a .sites .now) (l .list)), free-division-fits (a .n) (a .m) (a .scores .now) (a .rows .now) (a .sites .now) (a .division .now) e)
-
-same-length-2 : tie.Need-same-length-2
-same-length-2 c = search needs
 
 returns-2 : tie.Need-returns-2
 returns-2 c =
@@ -36,9 +27,9 @@ pub free-division-spec : {M : Type 1} → statement M
 free-division-spec =
     tie.close
     (tie.spec
-    free-division-refusal-requires
-    same-length
+    (λ c κs. search needs)
+    (λ c. search needs)
     returns
     divide-requires
-    same-length-2
+    (λ c. search needs)
     returns-2)

@@ -6,9 +6,6 @@ use Rattle.refusals.proofs.Passed.{free-claimed}
 use Rattle.planner.proofs.free_hand.Statement.{statement}
 use Rattle.planner.proofs.free_hand.Tie as tie
 
-free-hand-refusal-requires : tie.Need-free-hand-refusal-requires
-free-hand-refusal-requires c κs = search needs
-
 returns : tie.Need-returns
 returns c = search answers
 
@@ -20,4 +17,4 @@ returns-2 c =
     (free-claimed (a .n) (a .m) (a .k) (a .scores .now) (a .rows .now) (a .division .now) (a .claimed) (sym (tried .ensures) ∙ c .if1 .left))
 
 pub free-hand-spec : {M : Type 1} → statement M
-free-hand-spec = tie.close (tie.spec free-hand-refusal-requires returns returns-2)
+free-hand-spec = tie.close (tie.spec (λ c κs. search needs) returns returns-2)

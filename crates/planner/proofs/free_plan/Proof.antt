@@ -9,15 +9,6 @@ use Rattle.planner.proofs.Freely.{free-plan-given}
 use Rattle.planner.proofs.free_plan.Statement.{statement}
 use Rattle.planner.proofs.free_plan.Tie as tie
 
-free-plan-refusal-requires : tie.Need-free-plan-refusal-requires
-free-plan-refusal-requires c κs = search needs
-
-same-length : tie.Need-same-length
-same-length c = search needs
-
-same-length-2 : tie.Need-same-length-2
-same-length-2 c = search needs
-
 returns : tie.Need-returns
 returns c =
     let e = c .before .free-plan-refusal .ensures in
@@ -32,12 +23,6 @@ plan-requires c κs =
     let size = free-plan-fits (a .n) (a .m) (a .k) (a .scores .now) (a .rows .now) (a .division .now) (a .chosen .now) e in
     ((call .survey, omega (arith, size .1, call .few)), size .0)
 
-same-length-3 : tie.Need-same-length-3
-same-length-3 c = search needs
-
-same-length-4 : tie.Need-same-length-4
-same-length-4 c = search needs
-
 returns-2 : tie.Need-returns-2
 returns-2 c =
     let a = c .before .before .before .before .before .before .before .before .before .before .before .before .before .before .before .args in
@@ -49,11 +34,11 @@ pub free-plan-spec : {M : Type 1} → statement M
 free-plan-spec =
     tie.close
     (tie.spec
-    free-plan-refusal-requires
-    same-length
-    same-length-2
+    (λ c κs. search needs)
+    (λ c. search needs)
+    (λ c. search needs)
     returns
     plan-requires
-    same-length-3
-    same-length-4
+    (λ c. search needs)
+    (λ c. search needs)
     returns-2)

@@ -6,9 +6,6 @@ use Rattle.refusals.proofs.Listed.{list-total-listed, list-low}
 use Rattle.planner.proofs.list_total.Statement.{statement}
 use Rattle.planner.proofs.list_total.Tie as tie
 
-list-total-refusal-requires : tie.Need-list-total-refusal-requires
-list-total-refusal-requires c κs = search needs
-
 returns : tie.Need-returns
 returns c = search answers
 
@@ -23,4 +20,4 @@ returns-2 c = search answers
 
 pub list-total-spec : {M : Type 1} → statement M
 list-total-spec =
-    tie.close (tie.spec list-total-refusal-requires returns list-total-requires returns-2)
+    tie.close (tie.spec (λ c κs. search needs) returns list-total-requires returns-2)

@@ -7,15 +7,6 @@ use Rattle.planner.proofs.Files.{read-parts, read-room, read-refused, r
 use Rattle.planner.proofs.read_file.Statement.{statement}
 use Rattle.planner.proofs.read_file.Tie as tie
 
-read-refusal-requires : tie.Need-read-refusal-requires
-read-refusal-requires c κs = search needs
-
-same-length : tie.Need-same-length
-same-length c = search needs
-
-same-length-2 : tie.Need-same-length-2
-same-length-2 c = search needs
-
 returns : tie.Need-returns
 returns c =
     let e = c .before .read-refusal .ensures in
@@ -46,12 +37,6 @@ shared-slice-read-t22 c = let a = c .before .before .before .before .before .bef
 cast-t23 : tie.Need-cast-t23
 cast-t23 c = omega (arith, c .shared-slice-known4 .given 6)
 
-same-length-3 : tie.Need-same-length-3
-same-length-3 c = search needs
-
-same-length-4 : tie.Need-same-length-4
-same-length-4 c = search needs
-
 returns-2 : tie.Need-returns-2
 returns-2 c =
     let a = c .before .before .before .before .before .before .before .before .before .before .before .before .before .before .before .before .before .before .args in
@@ -64,9 +49,9 @@ pub read-file-spec : {M : Type 1} → statement M
 read-file-spec =
     tie.close
     (tie.spec
-    read-refusal-requires
-    same-length
-    same-length-2
+    (λ c κs. search needs)
+    (λ c. search needs)
+    (λ c. search needs)
     returns
     word-at-requires
     shared-slice-read-m
@@ -76,6 +61,6 @@ read-file-spec =
     cast-t20
     shared-slice-read-t22
     cast-t23
-    same-length-3
-    same-length-4
+    (λ c. search needs)
+    (λ c. search needs)
     returns-2)

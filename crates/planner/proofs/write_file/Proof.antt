@@ -8,12 +8,6 @@ use Rattle.planner.proofs.Files.{write-accepted, write-chosen, write-ki
 use Rattle.planner.proofs.write_file.Statement.{statement}
 use Rattle.planner.proofs.write_file.Tie as tie
 
-write-refusal-requires : tie.Need-write-refusal-requires
-write-refusal-requires c κs = search needs
-
-same-length : tie.Need-same-length
-same-length c = search needs
-
 returns : tie.Need-returns
 returns c =
     let e = c .before .write-refusal .ensures in
@@ -29,9 +23,6 @@ write-requires c κs = let a = c .before .before .before .before .before .before
 cast-t16 : tie.Need-cast-t16
 cast-t16 c = let a = c .before .before .before .before .before .before .before .before .before .before .before .args in omega (arith, c .before .before .before .before .file-length .ensures (a .k) (a .kind) (a .scores .now), write-short (a .n) (a .m) (a .k) (a .kind) (a .scores .now) (a .rows .now) (a .file .now) (sym (c .before .before .before .before .before .before .write-refusal .ensures) ∙ c .before .before .before .before .before .if1 .left))
 
-same-length-2 : tie.Need-same-length-2
-same-length-2 c = search needs
-
 returns-2 : tie.Need-returns-2
 returns-2 c = let a = c .before .before .before .before .before .before .before .before .before .before .before .args in write-given (a .n) (a .m) (a .k) (a .kind) (a .scores .now) (a .rows .now) (a .file .now) _ (c .before .before .before .before .before .before .write-refusal .ensures) (c .before .before .before .before .before .if1 .left) _ _ (c .before .before .before .before .file-length .ensures (a .k) (a .kind) (a .scores .now)) (c .before .before .write .ensures)
 
@@ -39,11 +30,11 @@ pub write-file-spec : {M : Type 1} → statement M
 write-file-spec =
     tie.close
     (tie.spec
-    write-refusal-requires
-    same-length
+    (λ c κs. search needs)
+    (λ c. search needs)
     returns
     file-length-requires
     write-requires
     cast-t16
-    same-length-2
+    (λ c. search needs)
     returns-2)

@@ -4,11 +4,8 @@ use Rattle.planner_c.proofs.Laws.{packed-number}
 use Rattle.planner_c.proofs.packed_refusal.Statement.{statement}
 use Rattle.planner_c.proofs.packed_refusal.Tie as tie
 
-mul-result : tie.Need-mul-result
-mul-result c = search needs
-
 returns : tie.Need-returns
 returns c = packed-number (c .args .x)
 
 pub packed-refusal-spec : {M : Type 1} → statement M
-packed-refusal-spec = tie.close (tie.spec mul-result returns)
+packed-refusal-spec = tie.close (tie.spec (λ c. search needs) returns)

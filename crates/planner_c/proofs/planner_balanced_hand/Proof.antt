@@ -4,15 +4,9 @@ use Rattle.planner_c.proofs.Laws.{packed-told}
 use Rattle.planner_c.proofs.planner_balanced_hand.Statement.{statement}
 use Rattle.planner_c.proofs.planner_balanced_hand.Tie as tie
 
-balanced-hand-requires : tie.Need-balanced-hand-requires
-balanced-hand-requires c κs = search needs
-
-packed-answer-requires : tie.Need-packed-answer-requires
-packed-answer-requires c κs = search needs
-
 returns : tie.Need-returns
 returns c = packed-told _ _ _ _ _ _ (c .packed-answer .ensures) (c .before .balanced-hand .ensures)
 
 pub planner-balanced-hand-spec : {M : Type 1} → statement M
 planner-balanced-hand-spec =
-    tie.close (tie.spec balanced-hand-requires packed-answer-requires returns)
+    tie.close (tie.spec (λ c κs. search needs) (λ c κs. search needs) returns)

@@ -4,14 +4,8 @@ use Rattle.planner_c.proofs.Laws.{packed-told}
 use Rattle.planner_c.proofs.planner_floor.Statement.{statement}
 use Rattle.planner_c.proofs.planner_floor.Tie as tie
 
-floor-requires : tie.Need-floor-requires
-floor-requires c κs = search needs
-
-packed-answer-requires : tie.Need-packed-answer-requires
-packed-answer-requires c κs = search needs
-
 returns : tie.Need-returns
 returns c = packed-told _ _ _ _ _ _ (c .packed-answer .ensures) (c .before .floor .ensures)
 
 pub planner-floor-spec : {M : Type 1} → statement M
-planner-floor-spec = tie.close (tie.spec floor-requires packed-answer-requires returns)
+planner-floor-spec = tie.close (tie.spec (λ c κs. search needs) (λ c κs. search needs) returns)

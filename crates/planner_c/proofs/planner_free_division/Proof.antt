@@ -6,15 +6,6 @@ use Rattle.planner_c.proofs.Laws.{packed-told}
 use Rattle.planner_c.proofs.planner_free_division.Statement.{statement}
 use Rattle.planner_c.proofs.planner_free_division.Tie as tie
 
-free-division-requires : tie.Need-free-division-requires
-free-division-requires c κs = search needs
-
-packed-answer-requires : tie.Need-packed-answer-requires
-packed-answer-requires c κs = search needs
-
-same-length : tie.Need-same-length
-same-length c = search needs
-
 returns : tie.Need-returns
 returns c =
     let a = c .before .before .before .before .before .before .before .before .before .args in
@@ -26,4 +17,4 @@ returns c =
 
 pub planner-free-division-spec : {M : Type 1} → statement M
 planner-free-division-spec =
-    tie.close (tie.spec free-division-requires packed-answer-requires same-length returns)
+    tie.close (tie.spec (λ c κs. search needs) (λ c κs. search needs) (λ c. search needs) returns)

@@ -4,15 +4,9 @@ use Rattle.planner_c.proofs.Laws.{packed-told}
 use Rattle.planner_c.proofs.planner_free_hand.Statement.{statement}
 use Rattle.planner_c.proofs.planner_free_hand.Tie as tie
 
-free-hand-requires : tie.Need-free-hand-requires
-free-hand-requires c κs = search needs
-
-packed-answer-requires : tie.Need-packed-answer-requires
-packed-answer-requires c κs = search needs
-
 returns : tie.Need-returns
 returns c = packed-told _ _ _ _ _ _ (c .packed-answer .ensures) (c .before .free-hand .ensures)
 
 pub planner-free-hand-spec : {M : Type 1} → statement M
 planner-free-hand-spec =
-    tie.close (tie.spec free-hand-requires packed-answer-requires returns)
+    tie.close (tie.spec (λ c κs. search needs) (λ c κs. search needs) returns)

@@ -4,14 +4,8 @@ use Rattle.planner_c.proofs.Laws.{packed-told}
 use Rattle.planner_c.proofs.planner_list_total.Statement.{statement}
 use Rattle.planner_c.proofs.planner_list_total.Tie as tie
 
-list-total-requires : tie.Need-list-total-requires
-list-total-requires c κs = search needs
-
-packed-answer-requires : tie.Need-packed-answer-requires
-packed-answer-requires c κs = search needs
-
 returns : tie.Need-returns
 returns c = packed-told _ _ _ _ _ _ (c .packed-answer .ensures) (c .before .list-total .ensures)
 
 pub planner-list-total-spec : {M : Type 1} → statement M
-planner-list-total-spec = tie.close (tie.spec list-total-requires packed-answer-requires returns)
+planner-list-total-spec = tie.close (tie.spec (λ c κs. search needs) (λ c κs. search needs) returns)

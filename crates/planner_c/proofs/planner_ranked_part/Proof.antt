@@ -7,11 +7,8 @@ use lib.ListN.{length}
 use Rattle.planner_c.proofs.planner_ranked_part.Statement.{statement}
 use Rattle.planner_c.proofs.planner_ranked_part.Tie as tie
 
-ranked-part-requires : tie.Need-ranked-part-requires
-ranked-part-requires c κs = search needs
-
 returns : tie.Need-returns
 returns c = ap (λ (row : List ℕ). length row) (c .ranked-part .ensures)
 
 pub planner-ranked-part-spec : {M : Type 1} → statement M
-planner-ranked-part-spec = tie.close (tie.spec ranked-part-requires returns)
+planner-ranked-part-spec = tie.close (tie.spec (λ c κs. search needs) returns)

@@ -6,36 +6,12 @@ use Rattle.planner_c.proofs.Reading.{refused-read, survey-read}
 use Rattle.planner_c.proofs.planner_read_file.Statement.{statement}
 use Rattle.planner_c.proofs.planner_read_file.Tie as tie
 
-read-file-requires : tie.Need-read-file-requires
-read-file-requires c κs = search needs
-
-enum-known-answer : tie.Need-enum-known-answer
-enum-known-answer c = search needs
-
-packed-refusal-requires : tie.Need-packed-refusal-requires
-packed-refusal-requires c κs = search needs
-
-enum-known-answer-2 : tie.Need-enum-known-answer-2
-enum-known-answer-2 c = search needs
-
-same-length : tie.Need-same-length
-same-length c = search needs
-
-same-length-2 : tie.Need-same-length-2
-same-length-2 c = search needs
-
 returns : tie.Need-returns
 returns c =
     let a = c .before .before .before .before .before .before .before .before .before .before .before .before .before .before .args in
     let t = c .before .before .before .before .before .before .before .before .read-file .ensures in
     let (number, kept) = refused-read _ (readRefusal (a .file .now) (a .rows .now) (a .scores .now)) (a .file .now) (sym (c .before .before .answer .given .1) ∙ t .0) in
     (c .packed-refusal .ensures ∙ number, (t .1 .0, (t .1 .1 .0, (kept _ (a .n .now), (kept _ (a .m .now), (kept _ (a .k .now), (kept _ (a .kind .now), t .1 .1 .1)))))))
-
-same-length-3 : tie.Need-same-length-3
-same-length-3 c = search needs
-
-same-length-4 : tie.Need-same-length-4
-same-length-4 c = search needs
 
 returns-2 : tie.Need-returns-2
 returns-2 c =
@@ -48,13 +24,13 @@ pub planner-read-file-spec : {M : Type 1} → statement M
 planner-read-file-spec =
     tie.close
     (tie.spec
-    read-file-requires
-    enum-known-answer
-    packed-refusal-requires
-    enum-known-answer-2
-    same-length
-    same-length-2
+    (λ c κs. search needs)
+    (λ c. search needs)
+    (λ c κs. search needs)
+    (λ c. search needs)
+    (λ c. search needs)
+    (λ c. search needs)
     returns
-    same-length-3
-    same-length-4
+    (λ c. search needs)
+    (λ c. search needs)
     returns-2)

@@ -4,14 +4,8 @@ use Rattle.planner_c.proofs.Laws.{packed-told}
 use Rattle.planner_c.proofs.planner_row_score.Statement.{statement}
 use Rattle.planner_c.proofs.planner_row_score.Tie as tie
 
-row-score-requires : tie.Need-row-score-requires
-row-score-requires c κs = search needs
-
-packed-answer-requires : tie.Need-packed-answer-requires
-packed-answer-requires c κs = search needs
-
 returns : tie.Need-returns
 returns c = packed-told _ _ _ _ _ _ (c .packed-answer .ensures) (c .before .row-score .ensures)
 
 pub planner-row-score-spec : {M : Type 1} → statement M
-planner-row-score-spec = tie.close (tie.spec row-score-requires packed-answer-requires returns)
+planner-row-score-spec = tie.close (tie.spec (λ c κs. search needs) (λ c κs. search needs) returns)

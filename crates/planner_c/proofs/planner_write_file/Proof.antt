@@ -8,15 +8,6 @@ use Rattle.planner_c.proofs.Laws.{packed-told, handed-on}
 use Rattle.planner_c.proofs.planner_write_file.Statement.{statement}
 use Rattle.planner_c.proofs.planner_write_file.Tie as tie
 
-write-file-requires : tie.Need-write-file-requires
-write-file-requires c κs = search needs
-
-packed-answer-requires : tie.Need-packed-answer-requires
-packed-answer-requires c κs = search needs
-
-same-length : tie.Need-same-length
-same-length c = search needs
-
 returns : tie.Need-returns
 returns c =
     let a = c .before .before .before .before .before .before .before .before .args in
@@ -28,4 +19,4 @@ returns c =
 
 pub planner-write-file-spec : {M : Type 1} → statement M
 planner-write-file-spec =
-    tie.close (tie.spec write-file-requires packed-answer-requires same-length returns)
+    tie.close (tie.spec (λ c κs. search needs) (λ c κs. search needs) (λ c. search needs) returns)

@@ -4,30 +4,12 @@ use Rattle.printing.proofs.Planned.{free-given, balanced-given}
 use Rattle.printing.proofs.plan_of.Statement.{statement}
 use Rattle.printing.proofs.plan_of.Tie as tie
 
-free-plan-requires : tie.Need-free-plan-requires
-free-plan-requires c κs = search needs
-
-same-length : tie.Need-same-length
-same-length c = search needs
-
-same-length-2 : tie.Need-same-length-2
-same-length-2 c = search needs
-
 returns : tie.Need-returns
 returns c =
     let a = c .before .before .before .before .before .before .before .before .before .before .before .before .args in
     let t = c .before .before .before .before .free-plan .ensures in
     free-given (a .kind) (a .n) (a .m) (a .k) (a .scores .now) (a .rows .now) (a .division .now) (a .chosen .now) (c .before .before .before .before .before .before .before .before .before .before .before .before .pre .0) (c .before .before .before .before .before .before .before .before .before .before .before .before .pre .1)
     (c .before .before .before .before .before .before .before .if1 .taken) (c .before .before .before .before .free-plan .result) _ _ (t .0) (t .1 .0) (t .1 .1 .0)
-
-balanced-plan-requires : tie.Need-balanced-plan-requires
-balanced-plan-requires c κs = search needs
-
-same-length-3 : tie.Need-same-length-3
-same-length-3 c = search needs
-
-same-length-4 : tie.Need-same-length-4
-same-length-4 c = search needs
 
 returns-2 : tie.Need-returns-2
 returns-2 c =
@@ -40,11 +22,11 @@ pub plan-of-spec : {M : Type 1} → statement M
 plan-of-spec =
     tie.close
     (tie.spec
-    free-plan-requires
-    same-length
-    same-length-2
+    (λ c κs. search needs)
+    (λ c. search needs)
+    (λ c. search needs)
     returns
-    balanced-plan-requires
-    same-length-3
-    same-length-4
+    (λ c κs. search needs)
+    (λ c. search needs)
+    (λ c. search needs)
     returns-2)

@@ -28,18 +28,6 @@ survey c =
     held (c .before .before .before .before .read-file .result) (c .before .before .before .before .before .before .before .before .before .args .file .now) (replicate 25600 0) (replicate 64 0) _ _ _ _ _ _ (c .answer .given .1) (t .0) (t .1 .0) (t .1 .1 .0) (t .1 .1 .1)
     (length-replicate {A = ℕ} 25600 0) (length-replicate {A = ℕ} 64 0)
 
-slice-aggregate-read-file : tie.Need-slice-aggregate-read-file
-slice-aggregate-read-file c = search needs
-
-slice-aggregate-read-file-2 : tie.Need-slice-aggregate-read-file-2
-slice-aggregate-read-file-2 c = search needs
-
-read-file-requires : tie.Need-read-file-requires
-read-file-requires c κs = search needs
-
-enum-known-answer : tie.Need-enum-known-answer
-enum-known-answer c = search needs
-
 mul-size : tie.Need-mul-size
 mul-size c = omega (arith, survey (c .before) .few-rows)
 
@@ -58,28 +46,13 @@ slice-aggregate-print-survey-2 c = sym (length-take-le _ (c .before .before .bef
 print-survey-requires : tie.Need-print-survey-requires
 print-survey-requires c κs = (survey (c .before .before .before .before) .sound, c .before .before .before .before .before .before .before .before .before .before .before .before .before .pre)
 
-enum-known-answer-2 : tie.Need-enum-known-answer-2
-enum-known-answer-2 c = search needs
-
-slice-aggregate-write-line : tie.Need-slice-aggregate-write-line
-slice-aggregate-write-line c = search needs
-
-cast-write-line : tie.Need-cast-write-line
-cast-write-line c = search needs
-
 write-line-requires : tie.Need-write-line-requires
 write-line-requires c κs =
     let x = c .before .before .before .answer2 .given .0 .0 in
     start-room _ (refusedLine x) (le-trans (refused-fits x (omega arith)) (c .before .before .before .before .before .before .before .before .before .before .before .before .pre))
 
-same-length : tie.Need-same-length
-same-length c = search needs
-
 returns : tie.Need-returns
 returns c = written-same (survey (c .before .before .before .before .before .before .before) .text) (c .before .before .print-survey .ensures)
-
-same-length-2 : tie.Need-same-length-2
-same-length-2 c = search needs
 
 returns-2 : tie.Need-returns-2
 returns-2 c =
@@ -90,21 +63,21 @@ pub print-spec : {M : Type 1} → statement M
 print-spec =
     tie.close
     (tie.spec
-    slice-aggregate-read-file
-    slice-aggregate-read-file-2
-    read-file-requires
-    enum-known-answer
+    (λ c. search needs)
+    (λ c. search needs)
+    (λ c κs. search needs)
+    (λ c. search needs)
     mul-size
     array-share-prefix-scores
     slice-aggregate-print-survey
     array-share-prefix-rows
     slice-aggregate-print-survey-2
     print-survey-requires
-    enum-known-answer-2
-    slice-aggregate-write-line
-    cast-write-line
+    (λ c. search needs)
+    (λ c. search needs)
+    (λ c. search needs)
     write-line-requires
-    same-length
+    (λ c. search needs)
     returns
-    same-length-2
+    (λ c. search needs)
     returns-2)

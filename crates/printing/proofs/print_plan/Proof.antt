@@ -5,9 +5,6 @@ use Rattle.printing.proofs.Planned.{planned-few}
 use Rattle.printing.proofs.print_plan.Statement.{statement}
 use Rattle.printing.proofs.print_plan.Tie as tie
 
-plan-of-requires : tie.Need-plan-of-requires
-plan-of-requires c κs = search needs
-
 write-answer-requires : tie.Need-write-answer-requires
 write-answer-requires c κs =
     let a = c .before .before .before .before .before .before .before .before .before .before .before .before .before .before .before .args in
@@ -16,15 +13,6 @@ write-answer-requires c κs =
     let kept = c .before .before .before .before .before .before .before .plan-of .kept in
     (planned-few (a .kind) (a .n) (a .m) (a .k) (a .scores .now) (a .rows .now) (a .division .now) (a .chosen .now) (last .1 .1 .1 .1 .1 .1 .0) (last .1 .1 .1 .1 .1 .1 .1 .0) (p .0) (p .1 .0) (kept .1 .1 .1 .1 .1 .1 .0) (kept .1 .1 .1 .1 .1 .1 .1 .0), p .1 .1)
 
-same-length : tie.Need-same-length
-same-length c = search needs
-
-same-length-2 : tie.Need-same-length-2
-same-length-2 c = search needs
-
-same-length-3 : tie.Need-same-length-3
-same-length-3 c = search needs
-
 returns : tie.Need-returns
 returns c = written-same (c .before .before .before .before .before .before .before .before .before .before .plan-of .ensures) (c .before .before .write-answer .ensures)
 
@@ -32,9 +20,9 @@ pub print-plan-spec : {M : Type 1} → statement M
 print-plan-spec =
     tie.close
     (tie.spec
-    plan-of-requires
+    (λ c κs. search needs)
     write-answer-requires
-    same-length
-    same-length-2
-    same-length-3
+    (λ c. search needs)
+    (λ c. search needs)
+    (λ c. search needs)
     returns)

@@ -30,12 +30,6 @@ print-plan-requires c κs =
     let f = sizes (c .before .before .before .before .before .before) in
     (c .before .before .before .before .before .before .pre .0, ((sym (blank-part (a .n) 400 (f .0)), sym (blank-part (a .k) 64 (f .2))), c .before .before .before .before .before .before .pre .1))
 
-same-length : tie.Need-same-length
-same-length c = search needs
-
-returns : tie.Need-returns
-returns c = search needs
-
 pub print-survey-spec : {M : Type 1} → statement M
 print-survey-spec =
     tie.close
@@ -45,5 +39,5 @@ print-survey-spec =
     array-borrow-prefix-chosen
     slice-aggregate-print-plan-2
     print-plan-requires
-    same-length
-    returns)
+    (λ c. search needs)
+    (λ c. search needs))

@@ -11,12 +11,6 @@ use Rattle.printing.specs.Texts.{answerText}
 use Rattle.printing.proofs.write_answer.Statement.{statement}
 use Rattle.printing.proofs.write_answer.Tie as tie
 
-enum-known-answer : tie.Need-enum-known-answer
-enum-known-answer c = search needs
-
-cast-write-listing : tie.Need-cast-write-listing
-cast-write-listing c = search needs
-
 write-listing-requires : tie.Need-write-listing-requires
 write-listing-requires c κs =
     let a = c .before .before .before .before .before .before .before .before .args in
@@ -25,28 +19,13 @@ write-listing-requires c κs =
     let fits = listing-fits (a .m) t (a .rows .now) (a .sites .now) (a .division .now) (p .0) (omega arith) (p .1) (λ i. omega (arith, c .before .before .before .before .before .before .shared-slice-known2 .given i)) (p .2) (λ i. omega (arith, c .before .before .before .before .before .shared-slice-known3 .given i)) in
     (p .3, le-trans fits (c .before .before .before .before .before .before .before .before .pre .1))
 
-enum-known-answer-2 : tie.Need-enum-known-answer-2
-enum-known-answer-2 c = search needs
-
-slice-aggregate-write-line : tie.Need-slice-aggregate-write-line
-slice-aggregate-write-line c = search needs
-
-cast-write-line : tie.Need-cast-write-line
-cast-write-line c = search needs
-
 write-line-requires : tie.Need-write-line-requires
 write-line-requires c κs =
     let x = c .before .before .before .answer2 .given .0 .0 in
     start-room _ (refusedLine x) (le-trans (refused-fits x (omega arith)) (c .before .before .before .before .before .before .before .before .before .pre .1))
 
-same-length : tie.Need-same-length
-same-length c = search needs
-
 returns : tie.Need-returns
 returns c = let a = c .before .before .before .before .before .before .before .before .before .before .before .args in written-same (ap (λ (r : Answer). answerText r (a .m) (a .rows .now) (a .sites .now) (a .division .now)) (sym (c .before .before .before .before .before .answer .given .1))) (c .before .before .write-listing .ensures)
-
-same-length-2 : tie.Need-same-length-2
-same-length-2 c = search needs
 
 returns-2 : tie.Need-returns-2
 returns-2 c = let a = c .before .before .before .before .before .before .before .before .before .before .before .before .args in written-same (ap (λ (r : Answer). answerText r (a .m) (a .rows .now) (a .sites .now) (a .division .now)) (sym (c .before .before .before .before .before .before .answer2 .given .1))) (c .before .before .write-line .ensures)
@@ -55,14 +34,14 @@ pub write-answer-spec : {M : Type 1} → statement M
 write-answer-spec =
     tie.close
     (tie.spec
-    enum-known-answer
-    cast-write-listing
+    (λ c. search needs)
+    (λ c. search needs)
     write-listing-requires
-    enum-known-answer-2
-    slice-aggregate-write-line
-    cast-write-line
+    (λ c. search needs)
+    (λ c. search needs)
+    (λ c. search needs)
     write-line-requires
-    same-length
+    (λ c. search needs)
     returns
-    same-length-2
+    (λ c. search needs)
     returns-2)

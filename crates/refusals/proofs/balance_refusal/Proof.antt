@@ -4,18 +4,12 @@ use Rattle.counting.proofs.Refusals.{chain}
 use Rattle.refusals.proofs.balance_refusal.Statement.{statement}
 use Rattle.refusals.proofs.balance_refusal.Tie as tie
 
-share-refusal-requires : tie.Need-share-refusal-requires
-share-refusal-requires c κs = search needs
-
 returns : tie.Need-returns
 returns c = search chain
-
-length-refusal-requires : tie.Need-length-refusal-requires
-length-refusal-requires c κs = search needs
 
 returns-2 : tie.Need-returns-2
 returns-2 c = search chain
 
 pub balance-refusal-spec : {M : Type 1} → statement M
 balance-refusal-spec =
-    tie.close (tie.spec share-refusal-requires returns length-refusal-requires returns-2)
+    tie.close (tie.spec (λ c κs. search needs) returns (λ c κs. search needs) returns-2)

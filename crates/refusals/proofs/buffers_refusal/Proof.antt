@@ -4,18 +4,12 @@ use Rattle.counting.proofs.Refusals.{chain}
 use Rattle.refusals.proofs.buffers_refusal.Statement.{statement}
 use Rattle.refusals.proofs.buffers_refusal.Tie as tie
 
-length-refusal-requires : tie.Need-length-refusal-requires
-length-refusal-requires c κs = search needs
-
 returns : tie.Need-returns
 returns c = search chain
-
-length-refusal-requires-2 : tie.Need-length-refusal-requires-2
-length-refusal-requires-2 c κs = search needs
 
 returns-2 : tie.Need-returns-2
 returns-2 c = search chain
 
 pub buffers-refusal-spec : {M : Type 1} → statement M
 buffers-refusal-spec =
-    tie.close (tie.spec length-refusal-requires returns length-refusal-requires-2 returns-2)
+    tie.close (tie.spec (λ c κs. search needs) returns (λ c κs. search needs) returns-2)

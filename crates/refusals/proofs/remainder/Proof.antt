@@ -8,11 +8,5 @@ use Rattle.refusals.proofs.remainder.Tie as tie
 returns : tie.Need-returns
 returns c = rw (c .if1 .taken) (sym (mod-zero _))
 
-rem-result : tie.Need-rem-result
-rem-result c = search needs
-
-returns-2 : tie.Need-returns-2
-returns-2 c = search needs
-
 pub remainder-spec : {M : Type 1} → statement M
-remainder-spec = tie.close (tie.spec returns rem-result returns-2)
+remainder-spec = tie.close (tie.spec returns (λ c. search needs) (λ c. search needs))

@@ -16,20 +16,11 @@ returns-3 c = search chain depth 40
 returns-4 : tie.Need-returns-4
 returns-4 c = search chain depth 40
 
-scores-refusal-requires : tie.Need-scores-refusal-requires
-scores-refusal-requires c κs = search needs
-
 returns-5 : tie.Need-returns-5
 returns-5 c = search chain depth 40
 
-row-refusal-requires : tie.Need-row-refusal-requires
-row-refusal-requires c κs = search needs
-
 returns-6 : tie.Need-returns-6
 returns-6 c = search chain depth 40
-
-range-refusal-requires : tie.Need-range-refusal-requires
-range-refusal-requires c κs = search needs
 
 returns-7 : tie.Need-returns-7
 returns-7 c = search chain depth 40
@@ -42,9 +33,9 @@ row-score-refusal-spec =
     returns-2
     returns-3
     returns-4
-    scores-refusal-requires
+    (λ c κs. search needs)
     returns-5
-    row-refusal-requires
+    (λ c κs. search needs)
     returns-6
-    range-refusal-requires
+    (λ c κs. search needs)
     returns-7)

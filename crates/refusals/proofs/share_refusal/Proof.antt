@@ -6,9 +6,6 @@ use Rattle.counting.proofs.Refusals.{unless-yes, unless-none}
 use Rattle.refusals.proofs.share_refusal.Statement.{statement}
 use Rattle.refusals.proofs.share_refusal.Tie as tie
 
-remainder-requires : tie.Need-remainder-requires
-remainder-requires c κs = search needs
-
 returns : tie.Need-returns
 returns c = unless-yes 5 _ (ne-eqb _ _ (λ e. c .if1 .taken (c .before .remainder .ensures ∙ e)))
 
@@ -16,4 +13,4 @@ returns-2 : tie.Need-returns-2
 returns-2 c = unless-none 5 _ (eq-eqb _ _ (sym (c .before .remainder .ensures) ∙ c .if1 .left))
 
 pub share-refusal-spec : {M : Type 1} → statement M
-share-refusal-spec = tie.close (tie.spec remainder-requires returns returns-2)
+share-refusal-spec = tie.close (tie.spec (λ c κs. search needs) returns returns-2)

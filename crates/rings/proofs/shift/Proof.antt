@@ -20,23 +20,8 @@ abbrev μ-loop : tie.MeasureT-loop
 loop-holds : tie.Need-loop-holds Inv-loop μ-loop
 loop-holds c = (omega arith, refl, moved-none _ _ _ _)
 
-add-l : tie.Need-add-l Inv-loop μ-loop
-add-l c = search needs
-
-mul-street : tie.Need-mul-street Inv-loop μ-loop
-mul-street c = search needs
-
-shared-slice-read-street : tie.Need-shared-slice-read-street Inv-loop μ-loop
-shared-slice-read-street c = search needs
-
 cast-street : tie.Need-cast-street Inv-loop μ-loop
 cast-street c = let l = c .before .before .loop in omega (arith, c .shared-slice-known .given (c .before .before .before .args .from + l .q))
-
-add-division : tie.Need-add-division Inv-loop μ-loop
-add-division c = search needs
-
-shared-slice-read-division : tie.Need-shared-slice-read-division Inv-loop μ-loop
-shared-slice-read-division c = search needs
 
 slice-write-division : tie.Need-slice-write-division Inv-loop μ-loop
 slice-write-division c =
@@ -44,21 +29,12 @@ slice-write-division c =
     let place = s .args .from + c .before .before .before .loop .q in
     omega (arith, s .pre .within place (omega arith) (omega arith))
 
-add-q : tie.Need-add-q Inv-loop μ-loop
-add-q c = search needs
-
-loop-less : tie.Need-loop-less Inv-loop μ-loop
-loop-less c = search needs
-
 loop-again : tie.Need-loop-again Inv-loop μ-loop
 loop-again c =
     let l = c .before .before .before .loop in
     let a = c .before .before .before .before .args in
     let more = moved-more (a .division .now) (l .division) (at (a .streets .now)) (at (a .sites .now)) (a .from) (l .q) (l .inv .2) in
     (omega arith, length-set (l .division) _ _ ∙ l .inv .1, more)
-
-same-length : tie.Need-same-length Inv-loop μ-loop
-same-length c = search needs
 
 returns : tie.Need-returns Inv-loop μ-loop
 returns c =
@@ -73,15 +49,15 @@ shift-spec =
     Inv-loop
     μ-loop
     loop-holds
-    add-l
-    mul-street
-    shared-slice-read-street
+    (λ c. search needs)
+    (λ c. search needs)
+    (λ c. search needs)
     cast-street
-    add-division
-    shared-slice-read-division
+    (λ c. search needs)
+    (λ c. search needs)
     slice-write-division
-    add-q
-    loop-less
+    (λ c. search needs)
+    (λ c. search needs)
     loop-again
-    same-length
+    (λ c. search needs)
     returns)

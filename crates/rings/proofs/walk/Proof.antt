@@ -70,17 +70,8 @@ loop-holds c =
     let a = s .args in
     (omega arith, refl, refl, linked-start (a .vias .now) (a .division .now) (a .w) (a .k) (a .b) (a .streets .now) (a .sites .now) (s .pre) (a .streets .now) _ refl)
 
-sub-l : tie.Need-sub-l Inv-loop μ-loop
-sub-l c = search needs
-
 step-requires : tie.Need-step-requires Inv-loop μ-loop
 step-requires c κs = fit (c .before .before .before) (omega arith)
-
-add-find : tie.Need-add-find Inv-loop μ-loop
-add-find c = search needs
-
-add-find-2 : tie.Need-add-find-2 Inv-loop μ-loop
-add-find-2 c = search needs
 
 slice-reshared-read-find : tie.Need-slice-reshared-read-find Inv-loop μ-loop
 slice-reshared-read-find c = let m = c .before .before .before .before .before in omega (arith, sites-same m, start (head m) .pre .sites-fit)
@@ -103,9 +94,6 @@ returns c =
     let h = lower m in
     let f = c .before .find in
     closes (head m .loop .l - 1) _ (f .result) (h .0) (h .1) (f .ensures) (c .if1 .taken) (omega (arith, f .ensures .low))
-
-loop-less : tie.Need-loop-less Inv-loop μ-loop
-loop-less c = search needs
 
 loop-again : tie.Need-loop-again Inv-loop μ-loop
 loop-again c =
@@ -133,17 +121,17 @@ walk-spec =
     cast-sites
     slice-write-sites
     loop-holds
-    sub-l
+    (λ c. search needs)
     step-requires
-    add-find
-    add-find-2
+    (λ c. search needs)
+    (λ c. search needs)
     slice-reshared-read-find
     find-requires
     sub-t24
     same-length
     same-length-2
     returns
-    loop-less
+    (λ c. search needs)
     loop-again
     same-length-3
     same-length-4

@@ -31,12 +31,6 @@ mul-low c = omega (arith, ends c)
 add-high : tie.Need-add-high Inv-loop μ-loop
 add-high c = omega (arith, ends c)
 
-sub-fill-street : tie.Need-sub-fill-street Inv-loop μ-loop
-sub-fill-street c = search needs
-
-part-fill-street-start : tie.Need-part-fill-street-start Inv-loop μ-loop
-part-fill-street-start c = search needs
-
 part-fill-street-end : tie.Need-part-fill-street-end Inv-loop μ-loop
 part-fill-street-end c = omega (arith, ends c)
 
@@ -46,12 +40,6 @@ fill-street-requires c κs =
     let ok = c .before .before .before .before .before .before .before .pre .0 in
     let rows = ranked _ _ _ _ ok in
     ((street-sound rows (omega arith), ok .scores-fit ∙ sym (row-length rows (omega arith))), (street-room rows (omega arith) (l .inv .1), street-unread rows (omega arith) (l .inv .1)))
-
-add-s : tie.Need-add-s Inv-loop μ-loop
-add-s c = search needs
-
-loop-less : tie.Need-loop-less Inv-loop μ-loop
-loop-less c = search needs
 
 loop-again : tie.Need-loop-again Inv-loop μ-loop
 loop-again c =
@@ -75,12 +63,12 @@ fill-values-spec =
     loop-holds
     mul-low
     add-high
-    sub-fill-street
-    part-fill-street-start
+    (λ c. search needs)
+    (λ c. search needs)
     part-fill-street-end
     fill-street-requires
-    add-s
-    loop-less
+    (λ c. search needs)
+    (λ c. search needs)
     loop-again
     same-length
     returns)

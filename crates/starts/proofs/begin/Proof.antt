@@ -31,9 +31,6 @@ low c =
     let p = c .before .before .before .before .before .before .before .before .before .before .before .before .before .pre in
     omega (arith, p .0 .few-sites, c .before .before .before .before .loop .inv .3 .size, c .best-left .ensures .0)
 
-copy-requires : tie.Need-copy-requires Inv-loop μ-loop
-copy-requires c κs = search needs
-
 loop-holds : tie.Need-loop-holds Inv-loop μ-loop
 loop-holds c =
     let p = c .before .before .before .before .before .before .before .before .pre in
@@ -47,12 +44,6 @@ add-to c = omega (arith, ends c)
 
 mul-best-left : tie.Need-mul-best-left Inv-loop μ-loop
 mul-best-left c = omega (arith, ends c)
-
-sub-best-left : tie.Need-sub-best-left Inv-loop μ-loop
-sub-best-left c = search needs
-
-part-best-left-start : tie.Need-part-best-left-start Inv-loop μ-loop
-part-best-left-start c = search needs
 
 part-best-left-end : tie.Need-part-best-left-end Inv-loop μ-loop
 part-best-left-end c = omega (arith, ends c)
@@ -71,29 +62,11 @@ best-left-requires c κs =
 mul-left : tie.Need-mul-left Inv-loop μ-loop
 mul-left c = omega (arith, low c)
 
-slice-read-left : tie.Need-slice-read-left Inv-loop μ-loop
-slice-read-left c = search needs
-
-sub-left : tie.Need-sub-left Inv-loop μ-loop
-sub-left c = search needs
-
 mul-left-2 : tie.Need-mul-left-2 Inv-loop μ-loop
 mul-left-2 c = omega (arith, low (c .before))
 
-slice-write-left : tie.Need-slice-write-left Inv-loop μ-loop
-slice-write-left c = search needs
-
 cast-division : tie.Need-cast-division Inv-loop μ-loop
 cast-division c = omega (arith, low (c .before))
-
-slice-write-division : tie.Need-slice-write-division Inv-loop μ-loop
-slice-write-division c = search needs
-
-add-s : tie.Need-add-s Inv-loop μ-loop
-add-s c = search needs
-
-loop-less : tie.Need-loop-less Inv-loop μ-loop
-loop-less c = search needs
 
 loop-again : tie.Need-loop-again Inv-loop μ-loop
 loop-again c =
@@ -103,12 +76,6 @@ loop-again c =
     let n = length (a .division .now) in
     let t = c .before .best-left in
     (omega arith, refl, refl, giving-more (a .shares .now) (l .left) (l .division) n (l .s) (p .0 .nobody) (l .inv .3) (t .result) (omega arith) (t .ensures .1))
-
-same-length : tie.Need-same-length Inv-loop μ-loop
-same-length c = search needs
-
-same-length-2 : tie.Need-same-length-2 Inv-loop μ-loop
-same-length-2 c = search needs
 
 returns : tie.Need-returns Inv-loop μ-loop
 returns c =
@@ -123,25 +90,25 @@ begin-spec =
     (tie.spec
     Inv-loop
     μ-loop
-    copy-requires
+    (λ c κs. search needs)
     loop-holds
     mul-from
     add-to
     mul-best-left
-    sub-best-left
-    part-best-left-start
+    (λ c. search needs)
+    (λ c. search needs)
     part-best-left-end
     best-left-requires
     mul-left
-    slice-read-left
-    sub-left
+    (λ c. search needs)
+    (λ c. search needs)
     mul-left-2
-    slice-write-left
+    (λ c. search needs)
     cast-division
-    slice-write-division
-    add-s
-    loop-less
+    (λ c. search needs)
+    (λ c. search needs)
+    (λ c. search needs)
     loop-again
-    same-length
-    same-length-2
+    (λ c. search needs)
+    (λ c. search needs)
     returns)

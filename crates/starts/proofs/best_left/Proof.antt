@@ -21,12 +21,6 @@ loop-holds c = (search needs, refl, seen-start _ _)
 better-requires : tie.Need-better-requires Inv-loop μ-loop
 better-requires c κs = let l = c .before .loop in ((c .before .before .before .before .pre .0, omega arith), l .inv .2)
 
-add-a : tie.Need-add-a Inv-loop μ-loop
-add-a c = search needs
-
-loop-less : tie.Need-loop-less Inv-loop μ-loop
-loop-less c = search needs
-
 loop-again : tie.Need-loop-again Inv-loop μ-loop
 loop-again c = (omega arith, refl, c .better .ensures)
 
@@ -39,4 +33,4 @@ returns c =
 pub best-left-spec : {M : Type 1} → statement M
 best-left-spec =
     tie.close
-    (tie.spec Inv-loop μ-loop loop-holds better-requires add-a loop-less loop-again returns)
+    (tie.spec Inv-loop μ-loop loop-holds better-requires (λ c. search needs) (λ c. search needs) loop-again returns)

@@ -5,22 +5,10 @@ use Rattle.starts.proofs.Giving.{seen-keep, seen-take}
 use Rattle.starts.proofs.better.Statement.{statement}
 use Rattle.starts.proofs.better.Tie as tie
 
-mul-if1 : tie.Need-mul-if1
-mul-if1 c = search needs
-
-shared-slice-read-if1 : tie.Need-shared-slice-read-if1
-shared-slice-read-if1 c = search needs
-
 returns : tie.Need-returns
 returns c =
     let s = c .before .before in
     seen-keep (s .args .left .now) (s .args .a) (s .args .found .site) (s .args .found .most) (λ h. absurd (omega (arith, c .if1 .taken))) (s .pre .1)
-
-mul-value : tie.Need-mul-value
-mul-value c = search needs
-
-shared-slice-read-value : tie.Need-shared-slice-read-value
-shared-slice-read-value c = search needs
 
 cast-value : tie.Need-cast-value
 cast-value c = omega (arith, c .shared-slice-known2 .given (c .before .before .before .args .a))
@@ -42,11 +30,11 @@ pub better-spec : {M : Type 1} → statement M
 better-spec =
     tie.close
     (tie.spec
-    mul-if1
-    shared-slice-read-if1
+    (λ c. search needs)
+    (λ c. search needs)
     returns
-    mul-value
-    shared-slice-read-value
+    (λ c. search needs)
+    (λ c. search needs)
     cast-value
     returns-2
     add-t12

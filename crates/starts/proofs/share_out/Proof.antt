@@ -17,9 +17,6 @@ abbrev μ-loop : tie.MeasureT-loop
 loop-holds : tie.Need-loop-holds Inv-loop μ-loop
 loop-holds c = (search needs, refl, sharing-none _ _ _ _ (c .pre))
 
-shared-slice-read-a : tie.Need-shared-slice-read-a Inv-loop μ-loop
-shared-slice-read-a c = search needs
-
 cast-a : tie.Need-cast-a Inv-loop μ-loop
 cast-a c = omega (arith, c .shared-slice-known .given (c .before .before .loop .i))
 
@@ -31,21 +28,12 @@ slice-write-shares c =
     let l = c .before .before .loop in
     omega (arith, c .before .before .before .pre .listed (l .i) (omega arith))
 
-add-i : tie.Need-add-i Inv-loop μ-loop
-add-i c = search needs
-
-loop-less : tie.Need-loop-less Inv-loop μ-loop
-loop-less c = search needs
-
 loop-again : tie.Need-loop-again Inv-loop μ-loop
 loop-again c =
     let s = c .before .before .before in
     let l = c .before .before .loop in
     let listed = s .pre .listed (l .i) (omega arith) in
     (omega arith, refl, sharing-more (s .args .q) (s .args .sites .now) (s .args .m) (l .shares) (l .i) (omega arith) listed (l .inv .2))
-
-same-length : tie.Need-same-length Inv-loop μ-loop
-same-length c = search needs
 
 returns : tie.Need-returns Inv-loop μ-loop
 returns c = let l = c .before .loop in sharing-end _ _ _ _ (l .i) (omega arith) (l .inv .2)
@@ -57,12 +45,12 @@ share-out-spec =
     Inv-loop
     μ-loop
     loop-holds
-    shared-slice-read-a
+    (λ c. search needs)
     cast-a
     mul-shares
     slice-write-shares
-    add-i
-    loop-less
+    (λ c. search needs)
+    (λ c. search needs)
     loop-again
-    same-length
+    (λ c. search needs)
     returns)

@@ -20,9 +20,6 @@ Inv-loop values shares prices division s limits₀ a b₀ limits b =
 abbrev μ-loop : tie.MeasureT-loop
 μ-loop values shares prices division s limits₀ a b₀ limits b = a - b
 
-shared-slice-read-a : tie.Need-shared-slice-read-a Inv-loop μ-loop
-shared-slice-read-a c = search needs
-
 cast-a : tie.Need-cast-a Inv-loop μ-loop
 cast-a c =
     let start = c .before .before .before .before .before .before in
@@ -56,9 +53,6 @@ add-b c =
     let start = c .before .before .before .before .before .before .before .before .before .before .before .before .before in
     omega (arith, l .inv .1, start .pre .0 .few-sites, start .pre .0 .sited (start .args .s) (start .pre .1 .0 .0))
 
-loop-less : tie.Need-loop-less Inv-loop μ-loop
-loop-less c = search needs
-
 loop-again : tie.Need-loop-again Inv-loop μ-loop
 loop-again c =
     let l = c .before .before .before .before .before .before .loop in
@@ -80,14 +74,14 @@ aim-spec =
     (tie.spec
     Inv-loop
     μ-loop
-    shared-slice-read-a
+    (λ c. search needs)
     cast-a
     loop-holds
     reach-requires
     same-length
     returns
     add-b
-    loop-less
+    (λ c. search needs)
     loop-again
     same-length-2
     returns-2)

@@ -10,22 +10,10 @@ use Rattle.ties.proofs.Settled.{scene-of, standing-start}
 use Rattle.ties.proofs.settle.Statement.{statement}
 use Rattle.ties.proofs.settle.Tie as tie
 
-slice-aggregate-fill : tie.Need-slice-aggregate-fill
-slice-aggregate-fill c = search needs
-
 cast-fill : tie.Need-cast-fill
 cast-fill c =
     let p = c .before .before .before .before .before .before .before .before .before .pre in
     omega (arith, p .0 .few)
-
-fill-requires : tie.Need-fill-requires
-fill-requires c κs = search needs
-
-slice-aggregate-list-sites : tie.Need-slice-aggregate-list-sites
-slice-aggregate-list-sites c = search needs
-
-slice-aggregate-list-sites-2 : tie.Need-slice-aggregate-list-sites-2
-slice-aggregate-list-sites-2 c = search needs
 
 list-sites-requires : tie.Need-list-sites-requires
 list-sites-requires c κs =
@@ -33,15 +21,6 @@ list-sites-requires c κs =
     let a = start .args in
     let p = start .pre in
     (scene-of (a .prices .now) (a .division .now) (p .0) (p .1 .1 .0) (p .1 .0), rows-room _ _ (p .0 .few-sites) (p .0 .few))
-
-slice-aggregate-settle-streets : tie.Need-slice-aggregate-settle-streets
-slice-aggregate-settle-streets c = search needs
-
-slice-aggregate-settle-streets-2 : tie.Need-slice-aggregate-settle-streets-2
-slice-aggregate-settle-streets-2 c = search needs
-
-slice-aggregate-settle-streets-3 : tie.Need-slice-aggregate-settle-streets-3
-slice-aggregate-settle-streets-3 c = search needs
 
 settle-streets-requires : tie.Need-settle-streets-requires
 settle-streets-requires c κs =
@@ -60,41 +39,23 @@ settle-streets-requires c κs =
     let settled = standing-start _ _ _ _ (p .1 .0) (p .1 .1 .1 .0) in
     (p .0, (p .1 .1 .0, (p .1 .1 .1 .1, ((rows, t .list-sites .ensures), (settled, (omega (arith, scene .few-sites, size), limits))))))
 
-same-length : tie.Need-same-length
-same-length c = search needs
-
-same-length-2 : tie.Need-same-length-2
-same-length-2 c = search needs
-
-same-length-3 : tie.Need-same-length-3
-same-length-3 c = search needs
-
-same-length-4 : tie.Need-same-length-4
-same-length-4 c = search needs
-
-same-length-5 : tie.Need-same-length-5
-same-length-5 c = search needs
-
-returns : tie.Need-returns
-returns c = search needs
-
 pub settle-spec : {M : Type 1} → statement M
 settle-spec =
     tie.close
     (tie.spec
-    slice-aggregate-fill
+    (λ c. search needs)
     cast-fill
-    fill-requires
-    slice-aggregate-list-sites
-    slice-aggregate-list-sites-2
+    (λ c κs. search needs)
+    (λ c. search needs)
+    (λ c. search needs)
     list-sites-requires
-    slice-aggregate-settle-streets
-    slice-aggregate-settle-streets-2
-    slice-aggregate-settle-streets-3
+    (λ c. search needs)
+    (λ c. search needs)
+    (λ c. search needs)
     settle-streets-requires
-    same-length
-    same-length-2
-    same-length-3
-    same-length-4
-    same-length-5
-    returns)
+    (λ c. search needs)
+    (λ c. search needs)
+    (λ c. search needs)
+    (λ c. search needs)
+    (λ c. search needs)
+    (λ c. search needs))

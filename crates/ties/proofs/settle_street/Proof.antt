@@ -8,9 +8,6 @@ use Rattle.ties.proofs.Settled.{scene-of, standing-still, standing-swap
 use Rattle.ties.proofs.settle_street.Statement.{statement}
 use Rattle.ties.proofs.settle_street.Tie as tie
 
-slice-read-a : tie.Need-slice-read-a
-slice-read-a c = search needs
-
 aim-requires : tie.Need-aim-requires
 aim-requires c κs =
     let start = c .before .before .before .before .before .before .before .before .before .before .before .before .before .before in
@@ -27,9 +24,6 @@ cast-if1 c =
     let scene = scene-of (a .prices .now) (a .division .now) (p .0) (p .1 .0) (p .1 .1 .1 .1 .1 .0 .within) in
     let small = scene .sited (a .s) (p .1 .1 .1 .0) in
     omega (arith, scene .few-sites)
-
-same-length : tie.Need-same-length
-same-length c = search needs
 
 same-length-2 : tie.Need-same-length-2
 same-length-2 c = c .before .before .before .aim .kept .1 .1 .1 .1 .1 .0
@@ -117,9 +111,6 @@ cast-division c =
     let small = scene .sited (a .s) (p .1 .1 .1 .0) in
     omega (arith, scene .few-sites, e .0 .within)
 
-slice-write-division-2 : tie.Need-slice-write-division-2
-slice-write-division-2 c = search needs
-
 cast-raise : tie.Need-cast-raise
 cast-raise c =
     let start = c .before .before .before .before .before .before .before .before .before .before .before .before .before .before .before .before .before .before .before .before .before .before .before in
@@ -137,9 +128,6 @@ raise-requires c κs =
     let scene = scene-of (a .prices .now) (a .division .now) (p .0) (p .1 .0) (p .1 .1 .1 .1 .1 .0 .within) in
     let small = scene .sited (a .s) (p .1 .1 .1 .0) in
     omega (arith, p .1 .1 .1 .1 .1 .1 .0, c .before .before .before .before .before .before .before .before .aim .kept .1 .1 .1 .1 .1 .0)
-
-same-length-3 : tie.Need-same-length-3
-same-length-3 c = search needs
 
 same-length-4 : tie.Need-same-length-4
 same-length-4 c = c .before .before .raise .kept .0 ∙ c .before .before .before .before .before .before .before .before .before .before .before .aim .kept .1 .1 .1 .1 .1 .0
@@ -167,35 +155,17 @@ settle-far-requires c κs =
     let e = c .before .before .before .before .before .before .before .before .before .before .before .before .before .aim .ensures in
     (p .0, (p .1 .0, (p .1 .1 .0, (p .1 .1 .1 .0, (p .1 .1 .1 .1 .0, (p .1 .1 .1 .1 .1 .0, (omega (arith, p .1 .1 .1 .1 .1 .1 .0, c .before .before .before .before .before .before .before .before .before .before .before .before .before .aim .kept .1 .1 .1 .1 .1 .0), e .1)))))))
 
-same-length-5 : tie.Need-same-length-5
-same-length-5 c = search needs
-
-same-length-6 : tie.Need-same-length-6
-same-length-6 c = search needs
-
-same-length-7 : tie.Need-same-length-7
-same-length-7 c = search needs
-
-same-length-8 : tie.Need-same-length-8
-same-length-8 c = search needs
-
-same-length-9 : tie.Need-same-length-9
-same-length-9 c = search needs
-
 same-length-10 : tie.Need-same-length-10
 same-length-10 c = c .before .before .before .before .before .before .before .before .before .before .before .before .settle-far .kept .1 .1 .1 .1 .1 .1 .1 .1 .1 .1 .1 .0 ∙ c .before .before .before .before .before .before .before .before .before .before .before .before .before .before .before .before .before .before .before .before .before .before .before .before .before .before .aim .kept .1 .1 .1 .1 .1 .0
-
-returns-3 : tie.Need-returns-3
-returns-3 c = search needs
 
 pub settle-street-spec : {M : Type 1} → statement M
 settle-street-spec =
     tie.close
     (tie.spec
-    slice-read-a
+    (λ c. search needs)
     aim-requires
     cast-if1
-    same-length
+    (λ c. search needs)
     same-length-2
     returns
     mul-limit
@@ -206,17 +176,17 @@ settle-street-spec =
     tight-requires
     slice-write-division
     cast-division
-    slice-write-division-2
+    (λ c. search needs)
     cast-raise
     raise-requires
-    same-length-3
+    (λ c. search needs)
     same-length-4
     returns-2
     settle-far-requires
-    same-length-5
-    same-length-6
-    same-length-7
-    same-length-8
-    same-length-9
+    (λ c. search needs)
+    (λ c. search needs)
+    (λ c. search needs)
+    (λ c. search needs)
+    (λ c. search needs)
     same-length-10
-    returns-3)
+    (λ c. search needs))

@@ -42,12 +42,6 @@ settle-street-requires c κs =
     let rows = rows-same _ (a .tights .now) (a .ends .now) (a .tights .now) (a .ends .now) (i .2) refl refl (p .1 .1 .1 .0 .0) in
     (town-same _ (i .2) (p .0), (p .1 .0, (room, (omega (arith, i .1, i .2, c .before .before .before .before .before .before .loop-test .taken), ((rows, i .8), (i .7, (omega (arith, i .9, p .1 .1 .1 .1 .1 .0), i .10)))))))
 
-add-s : tie.Need-add-s Inv-loop μ-loop
-add-s c = search needs
-
-loop-less : tie.Need-loop-less Inv-loop μ-loop
-loop-less c = search needs
-
 loop-again : tie.Need-loop-again Inv-loop μ-loop
 loop-again c =
     let t = c .before .before .before .before .before .before .before .before .before .before .before .before in
@@ -93,8 +87,8 @@ settle-streets-spec =
     μ-loop
     loop-holds
     settle-street-requires
-    add-s
-    loop-less
+    (λ c. search needs)
+    (λ c. search needs)
     loop-again
     same-length
     same-length-2

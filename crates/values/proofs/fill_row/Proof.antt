@@ -21,20 +21,11 @@ abbrev μ-loop : tie.MeasureT-loop
 loop-holds : tie.Need-loop-holds Inv-loop μ-loop
 loop-holds c = (search needs, refl, passed-none _ _ _ _ _ (c .pre .1 .1))
 
-shared-slice-read-b : tie.Need-shared-slice-read-b Inv-loop μ-loop
-shared-slice-read-b c = search needs
-
 same-length : tie.Need-same-length Inv-loop μ-loop
 same-length c = c .before .before .before .loop .inv .2 .size
 
 returns : tie.Need-returns Inv-loop μ-loop
 returns c = let p = c .before .before .before .before .pre in passed-stop (p .0 .0) (p .1 .0) (c .before .before .before .loop .inv .2) (omega arith) (c .if1 .taken)
-
-mul-values : tie.Need-mul-values Inv-loop μ-loop
-mul-values c = search needs
-
-shared-slice-read-values : tie.Need-shared-slice-read-values Inv-loop μ-loop
-shared-slice-read-values c = search needs
 
 cast-values : tie.Need-cast-values Inv-loop μ-loop
 cast-values c = omega (arith, c .shared-slice-known2 .given (c .before .before .before .before .loop .j))
@@ -49,12 +40,6 @@ slice-write-values : tie.Need-slice-write-values Inv-loop μ-loop
 slice-write-values c =
     let p = c .before .before .before .before .before .pre in
     omega (arith, passed-room (p .0 .0) (p .1 .0) (c .before .before .before .before .loop .inv .2) (omega arith))
-
-add-j : tie.Need-add-j Inv-loop μ-loop
-add-j c = search needs
-
-loop-less : tie.Need-loop-less Inv-loop μ-loop
-loop-less c = search needs
 
 loop-again : tie.Need-loop-again Inv-loop μ-loop
 loop-again c =
@@ -76,17 +61,17 @@ fill-row-spec =
     Inv-loop
     μ-loop
     loop-holds
-    shared-slice-read-b
+    (λ c. search needs)
     same-length
     returns
-    mul-values
-    shared-slice-read-values
+    (λ c. search needs)
+    (λ c. search needs)
     cast-values
     cast-values-2
     mul-values-2
     slice-write-values
-    add-j
-    loop-less
+    (λ c. search needs)
+    (λ c. search needs)
     loop-again
     same-length-2
     returns-2)

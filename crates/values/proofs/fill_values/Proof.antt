@@ -33,14 +33,8 @@ mul-low c = omega (arith, ends c)
 add-high : tie.Need-add-high Inv-loop μ-loop
 add-high c = omega (arith, ends c)
 
-add-from : tie.Need-add-from Inv-loop μ-loop
-add-from c = search needs
-
 mul-from : tie.Need-mul-from Inv-loop μ-loop
 mul-from c = omega (arith, ends c)
-
-add-to : tie.Need-add-to Inv-loop μ-loop
-add-to c = search needs
 
 add-to-2 : tie.Need-add-to-2 Inv-loop μ-loop
 add-to-2 c = omega (arith, ends c)
@@ -73,21 +67,12 @@ fill-row-requires c κs =
     let rows = ranked _ _ _ _ ok in
     ((street-sound rows (omega arith), ok .scores-fit ∙ sym (row-length rows (omega arith))), (street-room ok (omega arith) f, street-unread ok (omega arith) f))
 
-add-s : tie.Need-add-s Inv-loop μ-loop
-add-s c = search needs
-
-loop-less : tie.Need-loop-less Inv-loop μ-loop
-loop-less c = search needs
-
 loop-again : tie.Need-loop-again Inv-loop μ-loop
 loop-again c =
     let t = c .before .before .before .before .before .before .loop in
     let ok = c .before .before .before .before .before .before .before .before .before .before .pre .0 in
     let call = c .before .before .fill-row in
     (search needs, street-filled ok (omega arith) (t .inv .1) (call .last .1 .1 .0) (call .kept .1 .1 .0) (call .ensures))
-
-same-length : tie.Need-same-length Inv-loop μ-loop
-same-length c = search needs
 
 returns : tie.Need-returns Inv-loop μ-loop
 returns c = filled-all (omega arith) (c .before .loop .inv .1)
@@ -101,9 +86,9 @@ fill-values-spec =
     loop-holds
     mul-low
     add-high
-    add-from
+    (λ c. search needs)
     mul-from
-    add-to
+    (λ c. search needs)
     add-to-2
     sub-fill-row
     part-fill-row-start
@@ -113,8 +98,8 @@ fill-values-spec =
     part-fill-row-start-2
     part-fill-row-end-2
     fill-row-requires
-    add-s
-    loop-less
+    (λ c. search needs)
+    (λ c. search needs)
     loop-again
-    same-length
+    (λ c. search needs)
     returns)

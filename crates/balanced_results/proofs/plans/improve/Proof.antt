@@ -11,9 +11,6 @@ use Rattle.balanced_results.proofs.Played.{shared-same}
 use Rattle.balanced_results.proofs.plans.improve.Statement.{statement}
 use Rattle.balanced_results.proofs.plans.improve.Tie as tie
 
-div-q : tie.Need-div-q
-div-q c = search needs
-
 cast-share-out : tie.Need-cast-share-out
 cast-share-out c =
     let a = c .before .before .before .before .args in
@@ -32,12 +29,6 @@ best-requires c κs =
     let p = c .before .before .before .before .before .before .before .before .before .before .pre in
     (town _ _ _ _ _ refl (p .0 .0) (omega (arith, (c .before .before .before .before .share-out .kept .1 .1 .1 .0), p .1 .0 .0)) ((c .before .before .before .before .share-out .ensures) .1), shared-same (a .division .now) _ _ ((c .before .before .before .before .share-out .ensures) .0) (p .1 .1))
 
-same-length : tie.Need-same-length
-same-length c = search needs
-
-same-length-2 : tie.Need-same-length-2
-same-length-2 c = search needs
-
 returns : tie.Need-returns
 returns c =
     let a = c .before .before .before .before .before .before .before .before .before .before .before .before .before .args in
@@ -48,10 +39,10 @@ pub improve-spec : {M : Type 1} → statement M
 improve-spec =
     tie.close
     (tie.spec
-    div-q
+    (λ c. search needs)
     cast-share-out
     share-out-requires
     best-requires
-    same-length
-    same-length-2
+    (λ c. search needs)
+    (λ c. search needs)
     returns)

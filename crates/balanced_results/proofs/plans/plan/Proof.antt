@@ -13,12 +13,6 @@ use Rattle.balanced_results.proofs.Played.{ranked-of, even-of, plan-sur
 use Rattle.balanced_results.proofs.plans.plan.Statement.{statement}
 use Rattle.balanced_results.proofs.plans.plan.Tie as tie
 
-add-w : tie.Need-add-w
-add-w c = search needs
-
-mul-size : tie.Need-mul-size
-mul-size c = search needs
-
 array-borrow-prefix-table : tie.Need-array-borrow-prefix-table
 array-borrow-prefix-table c =
     let a = c .before .before .before .before .args in
@@ -49,9 +43,6 @@ slice-aggregate-plan-table c =
     let p = c .before .before .before .before .before .before .before .before .pre in
     table-size (a .n) (a .m) (a .scores .now) (a .rows .now) (p .0 .0) _ _ (c .before .before .fill-values .ensures)
 
-array-borrow-prefix-shares : tie.Need-array-borrow-prefix-shares
-array-borrow-prefix-shares c = search needs
-
 slice-aggregate-plan-table-2 : tie.Need-slice-aggregate-plan-table-2
 slice-aggregate-plan-table-2 c =
     let a = c .before .before .before .before .before .before .before .before .before .before .before .args in
@@ -64,12 +55,6 @@ plan-table-requires c κs =
     let p = c .before .before .before .before .before .before .before .before .before .before .before .pre in
     ((table-of _ _ _ _ (p .1) (table-ready (a .n) (a .m) (a .scores .now) (a .rows .now) (p .0 .0) _ _ (c .before .before .before .before .before .fill-values .ensures)), ranked-of _ _ _ _ (p .1) (ranked (a .n) (a .m) (a .scores .now) (a .rows .now) (p .0 .0)), table-falls (a .n) (a .m) (a .scores .now) (a .rows .now) (p .0 .0) _ _ (p .1) (table-same (a .n) (a .m) (a .scores .now) (a .rows .now) (p .0 .0) _ _ (c .before .before .before .before .before .fill-values .ensures))), ((p .0 .1, p .0 .2, even-of (a .n) (length (a .chosen .now)) _ (p .1) (p .0 .3)), (front-length (a .m + 1) 65 (omega (arith, p .0 .0 .few-sites)), front-blank (a .m + 1) 65 (omega (arith, p .0 .0 .few-sites)))))
 
-same-length : tie.Need-same-length
-same-length c = search needs
-
-same-length-2 : tie.Need-same-length-2
-same-length-2 c = search needs
-
 returns : tie.Need-returns
 returns c =
     let a = c .before .before .before .before .before .before .before .before .before .before .before .before .before .before .before .before .before .args in
@@ -81,16 +66,16 @@ pub plan-spec : {M : Type 1} → statement M
 plan-spec =
     tie.close
     (tie.spec
-    add-w
-    mul-size
+    (λ c. search needs)
+    (λ c. search needs)
     array-borrow-prefix-table
     slice-aggregate-fill-values
     fill-values-requires
     array-share-prefix-table
     slice-aggregate-plan-table
-    array-borrow-prefix-shares
+    (λ c. search needs)
     slice-aggregate-plan-table-2
     plan-table-requires
-    same-length
-    same-length-2
+    (λ c. search needs)
+    (λ c. search needs)
     returns)

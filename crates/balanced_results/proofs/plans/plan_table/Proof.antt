@@ -12,12 +12,6 @@ use Rattle.balanced_results.proofs.Played.{rounds-ready, state-sites, s
 use Rattle.balanced_results.proofs.plans.plan_table.Statement.{statement}
 use Rattle.balanced_results.proofs.plans.plan_table.Tie as tie
 
-play-requires : tie.Need-play-requires
-play-requires c κs = search needs
-
-array-share-prefix-sites : tie.Need-array-share-prefix-sites
-array-share-prefix-sites c = search needs
-
 slice-aggregate-copy : tie.Need-slice-aggregate-copy
 slice-aggregate-copy c =
     let a = c .before .before .before .before .before .before .before .before .before .args in
@@ -29,9 +23,6 @@ copy-requires c κs =
     let a = c .before .before .before .before .before .before .before .before .before .before .args in
     let p = c .before .before .before .before .before .before .before .before .before .before .pre in
     length-take-le (length (a .chosen .now)) ((c .before .before .before .before .play .result) .chosen) (omega (arith, (c .before .before .before .before .play .ensures .0 .0) .chosen-size, p .1 .0 .1, p .0 .0 .few-sites))
-
-array-share-prefix-given : tie.Need-array-share-prefix-given
-array-share-prefix-given c = search needs
 
 slice-aggregate-copy-2 : tie.Need-slice-aggregate-copy-2
 slice-aggregate-copy-2 c =
@@ -54,15 +45,6 @@ improve-requires c κs =
     let ready = rounds-ready (valueIn (a .values .now) (a .m)) (placeKey (λ s x. placeOf (rowOf (a .m) (a .rows .now) s) x) (a .m)) (length (a .division .now)) (a .m) (length (a .chosen .now)) (p .1 .0 .0) (p .1 .0 .1) (p .1 .0 .2) (h .last .1 .0) (d .last .1 .0) (d .kept .1 .0) (h .ensures ∙ state-sites (length (a .division .now)) (length (a .chosen .now)) (c .before .before .before .before .before .before .before .before .before .before .before .before .before .before .before .play .result) _ (c .before .before .before .before .before .before .before .before .before .before .before .before .before .before .before .play .ensures .0 .1) (c .before .before .before .before .before .before .before .before .before .before .before .before .before .before .before .play .ensures .1)) (d .ensures ∙ state-division (length (a .division .now)) (c .before .before .before .before .before .before .before .before .before .before .before .before .before .before .before .play .result) _ (c .before .before .before .before .before .before .before .before .before .before .before .before .before .before .before .play .ensures .1)) in
     ((table-of (length (a .division .now)) (a .m) _ _ (d .kept .1 .0) (p .0 .0), ready .0), (p .1 .1, ready .1))
 
-same-length : tie.Need-same-length
-same-length c = search needs
-
-same-length-2 : tie.Need-same-length-2
-same-length-2 c = search needs
-
-same-length-3 : tie.Need-same-length-3
-same-length-3 c = search needs
-
 returns : tie.Need-returns
 returns c =
     let a = c .before .before .before .before .before .before .before .before .before .before .before .before .before .before .before .before .before .before .before .before .before .before .before .before .before .before .args in
@@ -75,15 +57,15 @@ pub plan-table-spec : {M : Type 1} → statement M
 plan-table-spec =
     tie.close
     (tie.spec
-    play-requires
-    array-share-prefix-sites
+    (λ c κs. search needs)
+    (λ c. search needs)
     slice-aggregate-copy
     copy-requires
-    array-share-prefix-given
+    (λ c. search needs)
     slice-aggregate-copy-2
     copy-requires-2
     improve-requires
-    same-length
-    same-length-2
-    same-length-3
+    (λ c. search needs)
+    (λ c. search needs)
+    (λ c. search needs)
     returns)

@@ -13,12 +13,6 @@ use Rattle.balanced_results.proofs.Played.{lines-ordered, lined-same, k
 use Rattle.balanced_results.proofs.plans.play.Statement.{statement}
 use Rattle.balanced_results.proofs.plans.play.Tie as tie
 
-add-size : tie.Need-add-size
-add-size c = search needs
-
-mul-size : tie.Need-mul-size
-mul-size c = search needs
-
 array-borrow-prefix-keys : tie.Need-array-borrow-prefix-keys
 array-borrow-prefix-keys c =
     let a = c .before .before .args in
@@ -102,8 +96,8 @@ pub play-spec : {M : Type 1} → statement M
 play-spec =
     tie.close
     (tie.spec
-    add-size
-    mul-size
+    (λ c. search needs)
+    (λ c. search needs)
     array-borrow-prefix-keys
     slice-aggregate-fill-keys
     fill-keys-requires

@@ -12,17 +12,11 @@ use Rattle.balanced_rounds.proofs.Rounding.{lines-of, orders-of, fallin
 use Rattle.balanced_rounds.proofs.State.round.Statement.{statement}
 use Rattle.balanced_rounds.proofs.State.round.Tie as tie
 
-array-share-prefix-division : tie.Need-array-share-prefix-division
-array-share-prefix-division c = search needs
-
 slice-aggregate-choose : tie.Need-slice-aggregate-choose
 slice-aggregate-choose c =
     let a = c .before .before .before .before .before .args in
     let p = c .before .before .before .before .before .pre in
     sym (length-take-le (a .n) (a .self .division) (omega (arith, p .0 .0 .few-streets, p .1 .0 .division-size)))
-
-slice-aggregate-choose-2 : tie.Need-slice-aggregate-choose-2
-slice-aggregate-choose-2 c = search needs
 
 choose-requires : tie.Need-choose-requires
 choose-requires c κs =
@@ -54,9 +48,9 @@ pub round-spec : {M : Type 1} → statement M
 round-spec =
     tie.close
     (tie.spec
-    array-share-prefix-division
+    (λ c. search needs)
     slice-aggregate-choose
-    slice-aggregate-choose-2
+    (λ c. search needs)
     choose-requires
     cast-taking
     taking-requires

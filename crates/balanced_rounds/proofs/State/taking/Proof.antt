@@ -35,12 +35,6 @@ mul-give-lot c =
     let few = table-small (a .n) (a .m) (p .0 .1) (p .1 .3) in
     omega (arith, ends, size, few)
 
-sub-give-lot : tie.Need-sub-give-lot
-sub-give-lot c = search needs
-
-part-give-lot-start : tie.Need-part-give-lot-start
-part-give-lot-start c = search needs
-
 part-give-lot-end : tie.Need-part-give-lot-end
 part-give-lot-end c =
     let a = c .before .before .before .args in
@@ -50,17 +44,11 @@ part-give-lot-end c =
     let few = table-small (a .n) (a .m) (p .0 .1) (p .1 .3) in
     omega (arith, ends, size, few)
 
-array-share-prefix-before : tie.Need-array-share-prefix-before
-array-share-prefix-before c = search needs
-
 slice-aggregate-give-lot : tie.Need-slice-aggregate-give-lot
 slice-aggregate-give-lot c =
     let a = c .before .before .before .before .before .args in
     let p = c .before .before .before .before .before .pre in
     sym (length-take-le (a .n) (a .t1 .division) (omega (arith, p .0 .1, p .1 .0 .division-size)))
-
-array-borrow-prefix-division : tie.Need-array-borrow-prefix-division
-array-borrow-prefix-division c = search needs
 
 slice-aggregate-give-lot-2 : tie.Need-slice-aggregate-give-lot-2
 slice-aggregate-give-lot-2 c =
@@ -74,15 +62,6 @@ give-lot-requires c κs =
     let p = c .before .before .before .before .before .before .pre in
     let e = length-take-le (a .n) (a .t1 .division) (omega (arith, p .0 .1, p .1 .0 .division-size)) in
     (line-of (a .n) (a .m) (a .orders .now) (p .0 .0) (a .site) (p .1 .2) _ e (p .0 .1), refl)
-
-element-write-self : tie.Need-element-write-self
-element-write-self c = search needs
-
-add-self : tie.Need-add-self
-add-self c = search needs
-
-element-write-self-2 : tie.Need-element-write-self-2
-element-write-self-2 c = search needs
 
 returns : tie.Need-returns
 returns c =
@@ -98,15 +77,15 @@ taking-spec =
     mul-from
     add-to
     mul-give-lot
-    sub-give-lot
-    part-give-lot-start
+    (λ c. search needs)
+    (λ c. search needs)
     part-give-lot-end
-    array-share-prefix-before
+    (λ c. search needs)
     slice-aggregate-give-lot
-    array-borrow-prefix-division
+    (λ c. search needs)
     slice-aggregate-give-lot-2
     give-lot-requires
-    element-write-self
-    add-self
-    element-write-self-2
+    (λ c. search needs)
+    (λ c. search needs)
+    (λ c. search needs)
     returns)

@@ -23,23 +23,11 @@ same-length c = let l = c .before .before .loop in omega (arith, l .inv .2 .long
 returns : tie.Need-returns Inv-loop μ-loop
 returns c = let l = c .before .before .loop in giving-done (c .before .before .before .before .before .before .args .a) (c .before .before .before .before .before .before .args .line .now) (c .before .before .before .before .before .before .args .before .now) (c .before .before .before .before .before .before .args .division .now) (c .before .before .before .before .before .before .args .q) (l .j) (l .left) _ (c .if1 .taken) (l .inv .2)
 
-mul-s : tie.Need-mul-s Inv-loop μ-loop
-mul-s c = search needs
-
-shared-slice-read-s : tie.Need-shared-slice-read-s Inv-loop μ-loop
-shared-slice-read-s c = search needs
-
 cast-s : tie.Need-cast-s Inv-loop μ-loop
 cast-s c = omega (arith, c .shared-slice-known3 .given (c .before .before .before .loop .j))
 
 hand-requires : tie.Need-hand-requires Inv-loop μ-loop
 hand-requires c κs = let l = c .before .before .before .before .loop in let p = c .before .before .before .before .before .before .before .before .pre in (omega (arith, l .inv .2 .long), omega (arith, p .0 .streets (l .j) (omega arith), l .inv .2 .long), omega (arith, c .before .before .if1 .left))
-
-add-j : tie.Need-add-j Inv-loop μ-loop
-add-j c = search needs
-
-loop-less : tie.Need-loop-less Inv-loop μ-loop
-loop-less c = search needs
 
 loop-again : tie.Need-loop-again Inv-loop μ-loop
 loop-again c = let l = c .before .before .before .before .before .before .before .loop in let h = c .before .before .hand in (omega arith, refl, giving-more (c .before .before .before .before .before .before .before .before .before .before .before .args .a) (c .before .before .before .before .before .before .before .before .before .before .before .args .line .now) (c .before .before .before .before .before .before .before .before .before .before .before .args .before .now) (c .before .before .before .before .before .before .before .before .before .before .before .args .division .now) (c .before .before .before .before .before .before .before .before .before .before .before .args .q) (l .j) (l .left) _ (l .division) _ (omega arith) (omega (arith, c .before .before .before .before .before .if1 .left)) (h .kept .1 .0) (l .inv .2) (h .ensures .0) (h .ensures .1))
@@ -59,12 +47,12 @@ give-lot-spec =
     loop-holds
     same-length
     returns
-    mul-s
-    shared-slice-read-s
+    (λ c. search needs)
+    (λ c. search needs)
     cast-s
     hand-requires
-    add-j
-    loop-less
+    (λ c. search needs)
+    (λ c. search needs)
     loop-again
     same-length-2
     returns-2)

@@ -4,21 +4,6 @@ use Rattle.balanced_rounds.proofs.Walked.{stepped}
 use Rattle.balanced_rounds.proofs.walks.step.Statement.{statement}
 use Rattle.balanced_rounds.proofs.walks.step.Tie as tie
 
-open-requires : tie.Need-open-requires
-open-requires c κs = search needs
-
-cast-t5 : tie.Need-cast-t5
-cast-t5 c = search needs
-
-sub-t6 : tie.Need-sub-t6
-sub-t6 c = search needs
-
-times-requires : tie.Need-times-requires
-times-requires c κs = search needs
-
-add-t8 : tie.Need-add-t8
-add-t8 c = search needs
-
 returns : tie.Need-returns
 returns c =
     let a = c .before .before .before .before .args in
@@ -28,4 +13,4 @@ returns c =
     stepped (a .value) (a .site) (a .tally .left) (a .tally .total) (o .result) (x .result) (p .0) (o .ensures .1) (o .ensures .2) (x .ensures .1) (x .ensures .2)
 
 pub step-spec : {M : Type 1} → statement M
-step-spec = tie.close (tie.spec open-requires cast-t5 sub-t6 times-requires add-t8 returns)
+step-spec = tie.close (tie.spec (λ c κs. search needs) (λ c. search needs) (λ c. search needs) (λ c κs. search needs) (λ c. search needs) returns)

@@ -16,9 +16,6 @@ Inv-loop values m line division q a w tally₀ j₀ j-end tally j = (j ≤ j-end
 abbrev μ-loop : tie.MeasureT-loop
 μ-loop values m line division q a w tally₀ j₀ j-end tally j = j-end - j
 
-add-w : tie.Need-add-w Inv-loop μ-loop
-add-w c = search needs
-
 loop-holds : tie.Need-loop-holds Inv-loop μ-loop
 loop-holds c = (search needs, refl, adding-none _ _ _ _)
 
@@ -27,12 +24,6 @@ returns c =
     let a = c .before .before .before .before .before .before .before .args in
     let l = c .before .before .before .loop in
     adding-done (λ t. valueIn (a .values .now) (a .m) t (a .a)) (a .line .now) (a .division .now) (a .q) (l .j) _ _ (c .if1 .taken) (l .inv .2)
-
-mul-s : tie.Need-mul-s Inv-loop μ-loop
-mul-s c = search needs
-
-shared-slice-read-s : tie.Need-shared-slice-read-s Inv-loop μ-loop
-shared-slice-read-s c = search needs
 
 cast-s : tie.Need-cast-s Inv-loop μ-loop
 cast-s c = omega (arith, c .shared-slice-known4 .given (c .before .before .before .before .loop .j))
@@ -88,12 +79,6 @@ step-requires c κs =
     let l = c .before .before .before .before .before .before .before .loop in
     (omega (arith, c .before .before .before .before .if1 .left), omega (arith, l .inv .2 .room, p .1 .1), p .0 .0 .small _)
 
-add-j : tie.Need-add-j Inv-loop μ-loop
-add-j c = search needs
-
-loop-less : tie.Need-loop-less Inv-loop μ-loop
-loop-less c = search needs
-
 loop-again : tie.Need-loop-again Inv-loop μ-loop
 loop-again c =
     let a = c .before .before .before .before .before .before .before .before .before .before .before .before .args in
@@ -113,11 +98,11 @@ worth-spec =
     (tie.spec
     Inv-loop
     μ-loop
-    add-w
+    (λ c. search needs)
     loop-holds
     returns
-    mul-s
-    shared-slice-read-s
+    (λ c. search needs)
+    (λ c. search needs)
     cast-s
     mul-value
     add-value
@@ -126,7 +111,7 @@ worth-spec =
     returns-2
     shared-slice-read-step
     step-requires
-    add-j
-    loop-less
+    (λ c. search needs)
+    (λ c. search needs)
     loop-again
     returns-3)

@@ -16,9 +16,6 @@ abbrev μ-loop : tie.MeasureT-loop
 loop-holds : tie.Need-loop-holds Inv-loop μ-loop
 loop-holds c = omega arith
 
-digit-requires : tie.Need-digit-requires Inv-loop μ-loop
-digit-requires c κs = search needs
-
 mul-value : tie.Need-mul-value Inv-loop μ-loop
 mul-value c = omega arith
 
@@ -31,9 +28,6 @@ add-value c = omega arith
 rem-value : tie.Need-rem-value Inv-loop μ-loop
 rem-value c = omega arith
 
-returns : tie.Need-returns Inv-loop μ-loop
-returns c = search needs
-
 add-i : tie.Need-add-i Inv-loop μ-loop
 add-i c = omega arith
 
@@ -45,9 +39,6 @@ loop-again c =
     let p : 0 < c .before .before .before .before .args .bound = omega arith in
     (omega arith, ⊎-elim (λ w. rw (w .1) (mod-lt _ p)) (λ w. omega arith) (c .if1 .came))
 
-returns-2 : tie.Need-returns-2 Inv-loop μ-loop
-returns-2 c = search needs
-
 pub number-spec : {M : Type 1} → statement M
 number-spec =
     tie.close
@@ -55,13 +46,13 @@ number-spec =
     Inv-loop
     μ-loop
     loop-holds
-    digit-requires
+    (λ c κs. search needs)
     mul-value
     cast-value
     add-value
     rem-value
-    returns
+    (λ c. search needs)
     add-i
     loop-less
     loop-again
-    returns-2)
+    (λ c. search needs))

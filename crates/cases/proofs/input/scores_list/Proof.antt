@@ -41,9 +41,6 @@ add-i c = omega arith
 loop-less : tie.Need-loop-less Inv-loop μ-loop
 loop-less c = omega arith
 
-loop-again : tie.Need-loop-again Inv-loop μ-loop
-loop-again c = search needs
-
 returns : tie.Need-returns Inv-loop μ-loop
 returns c = (omega arith, sym (length-take-le _ _ (omega arith)))
 
@@ -62,5 +59,5 @@ scores-list-spec =
     array-write-buffer
     add-i
     loop-less
-    loop-again
+    (λ c. search needs)
     returns)

@@ -8,23 +8,8 @@ use mathlib.Core.Path.{sym}
 use Rattle.chains.proofs.steps.begin.Statement.{statement}
 use Rattle.chains.proofs.steps.begin.Tie as tie
 
-clear-requires : tie.Need-clear-requires
-clear-requires c κs = search needs
-
-slice-relend-prefix-clear : tie.Need-slice-relend-prefix-clear
-slice-relend-prefix-clear c = search needs
-
 slice-aggregate-clear : tie.Need-slice-aggregate-clear
 slice-aggregate-clear c = sym (length-take-le (length (c .before .before .before .clear .last .0)) (c .before .before .before .before .before .before .before .args .prices .now) (omega (arith, c .before .before .before .clear .kept .0, c .before .before .before .before .before .before .before .pre)))
-
-clear-requires-2 : tie.Need-clear-requires-2
-clear-requires-2 c κs = search needs
-
-same-length : tie.Need-same-length
-same-length c = search needs
-
-same-length-2 : tie.Need-same-length-2
-same-length-2 c = search needs
 
 returns : tie.Need-returns
 returns c =
@@ -36,10 +21,10 @@ pub begin-spec : {M : Type 1} → statement M
 begin-spec =
     tie.close
     (tie.spec
-    clear-requires
-    slice-relend-prefix-clear
+    (λ c κs. search needs)
+    (λ c. search needs)
     slice-aggregate-clear
-    clear-requires-2
-    same-length
-    same-length-2
+    (λ c κs. search needs)
+    (λ c. search needs)
+    (λ c. search needs)
     returns)

@@ -22,12 +22,6 @@ loop-holds c = (search needs, refl, raised-start _ _ _)
 higher-requires : tie.Need-higher-requires Inv-loop μ-loop
 higher-requires c κs = ((c .before .before .before .before .pre, omega arith), c .before .loop .inv .2)
 
-add-b : tie.Need-add-b Inv-loop μ-loop
-add-b c = search needs
-
-loop-less : tie.Need-loop-less Inv-loop μ-loop
-loop-less c = search needs
-
 loop-again : tie.Need-loop-again Inv-loop μ-loop
 loop-again c = (omega arith, refl, c .higher .ensures)
 
@@ -37,4 +31,4 @@ returns c = let l = c .before .loop in raised-done _ _ _ (l .b) _ (omega arith) 
 pub highest-spec : {M : Type 1} → statement M
 highest-spec =
     tie.close
-    (tie.spec Inv-loop μ-loop loop-holds higher-requires add-b loop-less loop-again returns)
+    (tie.spec Inv-loop μ-loop loop-holds higher-requires (λ c. search needs) (λ c. search needs) loop-again returns)

@@ -21,9 +21,6 @@ abbrev μ-loop : tie.MeasureT-loop
 loop-holds : tie.Need-loop-holds Inv-loop μ-loop
 loop-holds c = (search needs, refl, sum-start _ (c .before .before .args .division .now), omega arith)
 
-shared-slice-read-a : tie.Need-shared-slice-read-a Inv-loop μ-loop
-shared-slice-read-a c = search needs
-
 cast-a : tie.Need-cast-a Inv-loop μ-loop
 cast-a c = omega (arith, c .shared-slice-known3 .given (c .before .before .loop .s))
 
@@ -32,12 +29,6 @@ value-requires c κs = let s = c .before .before .before .before .before in let 
 
 add-total : tie.Need-add-total Inv-loop μ-loop
 add-total c = let s = c .before .before .before .before .before .before in let l = c .before .before .before .loop in omega (arith, s .pre .0 .few, c .value .ensures, s .pre .0 .small (l .s * s .args .w + at (s .args .division .now) (l .s)))
-
-add-s : tie.Need-add-s Inv-loop μ-loop
-add-s c = search needs
-
-loop-less : tie.Need-loop-less Inv-loop μ-loop
-loop-less c = search needs
 
 loop-again : tie.Need-loop-again Inv-loop μ-loop
 loop-again c = let s = c .before .before .before .before .before .before in let l = c .before .before .before .loop in (omega arith, refl, sum-next (cell (s .args .values .now) (s .args .w)) (s .args .division .now) (l .s) _ _ (omega arith) (l .inv .2) (c .value .ensures), omega (arith, c .value .ensures, s .pre .0 .small (l .s * s .args .w + at (s .args .division .now) (l .s))))
@@ -52,11 +43,11 @@ sum-spec =
     Inv-loop
     μ-loop
     loop-holds
-    shared-slice-read-a
+    (λ c. search needs)
     cast-a
     value-requires
     add-total
-    add-s
-    loop-less
+    (λ c. search needs)
+    (λ c. search needs)
     loop-again
     returns)

@@ -69,12 +69,6 @@ fill-row-requires c κs =
     let s = c .before .before .before .before .before .before .before in
     row-asks (s .args .values .now) (s .args .w) (s .args .sites .now) (t .table) (s .args .k) (s .args .n) (t .s) (omega arith) (s .pre .0 .0) (t .inv .1) (s .pre .1 .0 .0) (s .pre .1 .0 .1)
 
-add-s : tie.Need-add-s Inv-loop μ-loop
-add-s c = search needs
-
-loop-less : tie.Need-loop-less Inv-loop μ-loop
-loop-less c = search needs
-
 loop-again : tie.Need-loop-again Inv-loop μ-loop
 loop-again c =
     let t = c .before .before .before .before .before .before .loop in
@@ -108,8 +102,8 @@ fill-spec =
     part-fill-row-start-2
     part-fill-row-end-2
     fill-row-requires
-    add-s
-    loop-less
+    (λ c. search needs)
+    (λ c. search needs)
     loop-again
     same-length
     returns)

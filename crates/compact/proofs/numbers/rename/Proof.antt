@@ -19,29 +19,14 @@ abbrev μ-loop : tie.MeasureT-loop
 loop-holds : tie.Need-loop-holds Inv-loop μ-loop
 loop-holds c = (search needs, refl, mapped-none _ _)
 
-slice-read-a : tie.Need-slice-read-a Inv-loop μ-loop
-slice-read-a c = search needs
-
 cast-a : tie.Need-cast-a Inv-loop μ-loop
 cast-a c = omega (arith, c .slice-known .given (c .before .before .loop .s))
 
 shared-slice-read-division : tie.Need-shared-slice-read-division Inv-loop μ-loop
 shared-slice-read-division c = let l = c .before .before .before .loop in omega (arith, c .before .before .before .before .pre (l .s) (omega arith), l .inv .2 .rest (l .s) (omega arith))
 
-slice-write-division : tie.Need-slice-write-division Inv-loop μ-loop
-slice-write-division c = search needs
-
-add-s : tie.Need-add-s Inv-loop μ-loop
-add-s c = search needs
-
-loop-less : tie.Need-loop-less Inv-loop μ-loop
-loop-less c = search needs
-
 loop-again : tie.Need-loop-again Inv-loop μ-loop
 loop-again c = let l = c .before .before .before .loop in (omega arith, refl, mapped-more (λ i x. at (c .before .before .before .before .args .names .now) x) _ (l .division) (l .s) _ (omega arith) (l .inv .2) refl)
-
-same-length : tie.Need-same-length Inv-loop μ-loop
-same-length c = search needs
 
 returns : tie.Need-returns Inv-loop μ-loop
 returns c = let l = c .before .loop in mapped-map (at (c .before .before .args .names .now)) _ _ (l .s) (omega arith) (l .inv .2)
@@ -53,12 +38,12 @@ rename-spec =
     Inv-loop
     μ-loop
     loop-holds
-    slice-read-a
+    (λ c. search needs)
     cast-a
     shared-slice-read-division
-    slice-write-division
-    add-s
-    loop-less
+    (λ c. search needs)
+    (λ c. search needs)
+    (λ c. search needs)
     loop-again
-    same-length
+    (λ c. search needs)
     returns)

@@ -7,17 +7,8 @@ use Rattle.file_reader.proofs.Tries.{scores-read}
 use Rattle.file_reader.proofs.fields.scores_refusal.Statement.{statement}
 use Rattle.file_reader.proofs.fields.scores_refusal.Tie as tie
 
-mul-if1 : tie.Need-mul-if1
-mul-if1 c = search needs
-
-add-if1 : tie.Need-add-if1
-add-if1 c = search needs
-
 returns : tie.Need-returns
 returns c = search chain
-
-table-refusal-requires : tie.Need-table-refusal-requires
-table-refusal-requires c κs = search needs
 
 returns-2 : tie.Need-returns-2
 returns-2 c =
@@ -25,4 +16,4 @@ returns-2 c =
     skip _ 12 _ _ (le-ltb _ _ (c .before .if1 .left)) (c .table-refusal .ensures ∙ scores-read (a .m) (a .rest .now))
 
 pub scores-refusal-spec : {M : Type 1} → statement M
-scores-refusal-spec = tie.close (tie.spec mul-if1 add-if1 returns table-refusal-requires returns-2)
+scores-refusal-spec = tie.close (tie.spec (λ c. search needs) (λ c. search needs) returns (λ c κs. search needs) returns-2)

@@ -9,20 +9,11 @@ use Rattle.file_reader.proofs.fields.street_refusal.Tie as tie
 returns : tie.Need-returns
 returns c = search (chain, reads) depth 30
 
-word-at-requires : tie.Need-word-at-requires
-word-at-requires c κs = search needs
-
 returns-2 : tie.Need-returns-2
 returns-2 c = search (chain, reads) depth 30
 
-shared-slice-read-if3 : tie.Need-shared-slice-read-if3
-shared-slice-read-if3 c = search needs
-
 returns-3 : tie.Need-returns-3
 returns-3 c = search (chain, reads) depth 30
-
-shared-slice-read-end : tie.Need-shared-slice-read-end
-shared-slice-read-end c = search needs
 
 cast-end : tie.Need-cast-end
 cast-end c = omega (arith, c .shared-slice-known3 .given 4)
@@ -33,18 +24,6 @@ add-end c = omega (arith, c .shared-slice-known3 .given 4)
 returns-4 : tie.Need-returns-4
 returns-4 c = search (chain, reads) depth 30
 
-sub-list-refusal : tie.Need-sub-list-refusal
-sub-list-refusal c = search needs
-
-part-list-refusal-start : tie.Need-part-list-refusal-start
-part-list-refusal-start c = search needs
-
-part-list-refusal-end : tie.Need-part-list-refusal-end
-part-list-refusal-end c = search needs
-
-list-refusal-requires : tie.Need-list-refusal-requires
-list-refusal-requires c κs = search needs
-
 returns-5 : tie.Need-returns-5
 returns-5 c = search (chain, reads, list-lent) depth 30
 
@@ -53,16 +32,16 @@ street-refusal-spec =
     tie.close
     (tie.spec
     returns
-    word-at-requires
+    (λ c κs. search needs)
     returns-2
-    shared-slice-read-if3
+    (λ c. search needs)
     returns-3
-    shared-slice-read-end
+    (λ c. search needs)
     cast-end
     add-end
     returns-4
-    sub-list-refusal
-    part-list-refusal-start
-    part-list-refusal-end
-    list-refusal-requires
+    (λ c. search needs)
+    (λ c. search needs)
+    (λ c. search needs)
+    (λ c κs. search needs)
     returns-5)

@@ -22,18 +22,6 @@ abbrev μ-loop : tie.MeasureT-loop
 loop-holds : tie.Need-loop-holds Inv-loop μ-loop
 loop-holds c = (search needs, search needs, past-none _, first-start _)
 
-add-at : tie.Need-add-at Inv-loop μ-loop
-add-at c = search needs
-
-record-at-requires : tie.Need-record-at-requires Inv-loop μ-loop
-record-at-requires c κs = search needs
-
-enum-known-street : tie.Need-enum-known-street Inv-loop μ-loop
-enum-known-street c = search needs
-
-number-of-requires : tie.Need-number-of-requires Inv-loop μ-loop
-number-of-requires c κs = search needs
-
 returns : tie.Need-returns Inv-loop μ-loop
 returns c =
     let a = c .before .before .before .before .before .before .args in
@@ -55,12 +43,6 @@ add-at-3 c =
     let told = street-taken (a .file .now) (a .m) (l .i + 1) (l .at) (c .before .street .given .0 .0) (sym (c .before .street .given .1) ∙ c .before .before .before .record-at .ensures) in
     omega (arith, told .2)
 
-add-i : tie.Need-add-i Inv-loop μ-loop
-add-i c = search needs
-
-loop-less : tie.Need-loop-less Inv-loop μ-loop
-loop-less c = search needs
-
 loop-again : tie.Need-loop-again Inv-loop μ-loop
 loop-again c =
     let a = c .before .before .before .before .before .before .before .args in
@@ -72,12 +54,6 @@ loop-again c =
       street-past (a .file .now) streets (a .m) (l .at) (l .i) (l .inv .2) _ (told .1),
       street-passes (a .file .now) streets (a .m) (l .at) (l .i) (l .inv .2) (l .inv .3) (told .0),
     )
-
-record-at-requires-2 : tie.Need-record-at-requires-2 Inv-loop μ-loop
-record-at-requires-2 c κs = search needs
-
-number-of-requires-2 : tie.Need-number-of-requires-2 Inv-loop μ-loop
-number-of-requires-2 c κs = search needs
 
 returns-2 : tie.Need-returns-2 Inv-loop μ-loop
 returns-2 c =
@@ -93,16 +69,16 @@ streets-refusal-spec =
     Inv-loop
     μ-loop
     loop-holds
-    add-at
-    record-at-requires
-    enum-known-street
-    number-of-requires
+    (λ c. search needs)
+    (λ c κs. search needs)
+    (λ c. search needs)
+    (λ c κs. search needs)
     returns
     add-at-2
     add-at-3
-    add-i
-    loop-less
+    (λ c. search needs)
+    (λ c. search needs)
     loop-again
-    record-at-requires-2
-    number-of-requires-2
+    (λ c κs. search needs)
+    (λ c κs. search needs)
     returns-2)

@@ -4,9 +4,6 @@ use Rattle.file_reader.proofs.Reading.{refused, accepted}
 use Rattle.file_reader.proofs.records.end_in.Statement.{statement}
 use Rattle.file_reader.proofs.records.end_in.Tie as tie
 
-end-refusal-requires : tie.Need-end-refusal-requires
-end-refusal-requires c κs = search needs
-
 returns : tie.Need-returns
 returns c = refused _ _ _ (c .before .end-refusal .ensures) (c .if1 .taken)
 
@@ -14,4 +11,4 @@ returns-2 : tie.Need-returns-2
 returns-2 c = accepted _ _ _ (c .before .end-refusal .ensures) (c .if1 .left)
 
 pub end-in-spec : {M : Type 1} → statement M
-end-in-spec = tie.close (tie.spec end-refusal-requires returns returns-2)
+end-in-spec = tie.close (tie.spec (λ c κs. search needs) returns returns-2)

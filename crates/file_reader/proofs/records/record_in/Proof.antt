@@ -11,24 +11,12 @@ use Rattle.file_reader.proofs.records.record_in.Tie as tie
 returns : tie.Need-returns
 returns c = no-mark (c .before .before .args .due) (c .before .before .args .rest .now) (c .if1 .taken)
 
-word-at-requires : tie.Need-word-at-requires
-word-at-requires c κs = search needs
-
-enum-told : tie.Need-enum-told
-enum-told c = search needs
-
 returns-2 : tie.Need-returns-2
 returns-2 c =
     let a = c .before .before .before .before .before .args in
     let w = c .before .before .word-at in
     other-mark (a .due) (a .rest .now) (w .result) (c .before .before .before .if1 .left) (w .ensures .0)
     (other-due (a .due) (1 ∷ 2 ∷ 3 ∷ []) (w .result) townMark (c .match2 .keys2) (c .before .match .keys1) tt)
-
-town-in-requires : tie.Need-town-in-requires
-town-in-requires c κs = search needs
-
-enum-known-due : tie.Need-enum-known-due
-enum-known-due c = search needs
 
 returns-3 : tie.Need-returns-3
 returns-3 c =
@@ -37,12 +25,6 @@ returns-3 c =
     other-mark (a .due) (a .rest .now) (w .result) (c .before .before .before .if1 .left) (w .ensures .0)
     (other-due (a .due) (0 ∷ 2 ∷ 3 ∷ []) (w .result) scoresMark (c .match3 .keys2) (c .before .match .keys2) tt)
 
-scores-in-requires : tie.Need-scores-in-requires
-scores-in-requires c κs = search needs
-
-enum-known-due-2 : tie.Need-enum-known-due-2
-enum-known-due-2 c = search needs
-
 returns-4 : tie.Need-returns-4
 returns-4 c =
     let a = c .before .before .before .before .before .args in
@@ -50,21 +32,12 @@ returns-4 c =
     other-mark (a .due) (a .rest .now) (w .result) (c .before .before .before .if1 .left) (w .ensures .0)
     (other-due (a .due) (0 ∷ 1 ∷ 3 ∷ []) (w .result) streetMark (c .match4 .keys2) (c .before .match .keys3) tt)
 
-street-in-requires : tie.Need-street-in-requires
-street-in-requires c κs = search needs
-
-enum-told-2 : tie.Need-enum-told-2
-enum-told-2 c = search needs
-
 returns-5 : tie.Need-returns-5
 returns-5 c =
     let a = c .before .before .before .before .before .args in
     let w = c .before .before .word-at in
     other-mark (a .due) (a .rest .now) (w .result) (c .before .before .before .if1 .left) (w .ensures .0)
     (other-due (a .due) (0 ∷ 1 ∷ 2 ∷ []) (w .result) endMark (c .match5 .keys2) (c .before .match .keys4) tt)
-
-end-in-requires : tie.Need-end-in-requires
-end-in-requires c κs = search needs
 
 returns-6 : tie.Need-returns-6
 unfolding markOf
@@ -113,19 +86,19 @@ record-in-spec =
     tie.close
     (tie.spec
     returns
-    word-at-requires
-    enum-told
+    (λ c κs. search needs)
+    (λ c. search needs)
     returns-2
-    town-in-requires
-    enum-known-due
+    (λ c κs. search needs)
+    (λ c. search needs)
     returns-3
-    scores-in-requires
-    enum-known-due-2
+    (λ c κs. search needs)
+    (λ c. search needs)
     returns-4
-    street-in-requires
-    enum-told-2
+    (λ c κs. search needs)
+    (λ c. search needs)
     returns-5
-    end-in-requires
+    (λ c κs. search needs)
     returns-6
     returns-7
     returns-8

@@ -5,9 +5,6 @@ use Rattle.file_reader.proofs.Reading.{refused, accepted, street-long}
 use Rattle.file_reader.proofs.records.street_in.Statement.{statement}
 use Rattle.file_reader.proofs.records.street_in.Tie as tie
 
-street-refusal-requires : tie.Need-street-refusal-requires
-street-refusal-requires c κs = search needs
-
 returns : tie.Need-returns
 returns c = refused _ _ _ (c .before .street-refusal .ensures) (c .if1 .taken)
 
@@ -24,4 +21,4 @@ returns-2 c = accepted _ _ _ (c .before .before .street-refusal .ensures) (c .be
 
 pub street-in-spec : {M : Type 1} → statement M
 street-in-spec =
-    tie.close (tie.spec street-refusal-requires returns shared-slice-read-t7 cast-t8 returns-2)
+    tie.close (tie.spec (λ c κs. search needs) returns shared-slice-read-t7 cast-t8 returns-2)

@@ -5,9 +5,6 @@ use Rattle.file_reader.proofs.Reading.{refused, town-long, town-given}
 use Rattle.file_reader.proofs.records.town_in.Statement.{statement}
 use Rattle.file_reader.proofs.records.town_in.Tie as tie
 
-town-refusal-requires : tie.Need-town-refusal-requires
-town-refusal-requires c κs = search needs
-
 returns : tie.Need-returns
 returns c = refused _ _ _ (c .before .town-refusal .ensures) (c .if1 .taken)
 
@@ -41,7 +38,7 @@ pub town-in-spec : {M : Type 1} → statement M
 town-in-spec =
     tie.close
     (tie.spec
-    town-refusal-requires
+    (λ c κs. search needs)
     returns
     word-at-requires
     shared-slice-read-t6

@@ -30,20 +30,11 @@ room c =
 loop-holds : tie.Need-loop-holds Inv-loop μ-loop
 loop-holds c = let a = c .args in (search needs, refl, turns-none (a .file .now) (a .i) _ (omega arith))
 
-shared-slice-read-file : tie.Need-shared-slice-read-file Inv-loop μ-loop
-shared-slice-read-file c = search needs
-
 slice-write-file : tie.Need-slice-write-file Inv-loop μ-loop
 slice-write-file c = let r = room (c .before) in omega arith
 
 add-next : tie.Need-add-next Inv-loop μ-loop
 add-next c = let r = room (c .before) in omega arith
-
-add-j : tie.Need-add-j Inv-loop μ-loop
-add-j c = search needs
-
-loop-less : tie.Need-loop-less Inv-loop μ-loop
-loop-less c = search needs
 
 loop-again : tie.Need-loop-again Inv-loop μ-loop
 loop-again c =
@@ -64,11 +55,11 @@ write-list-spec =
     Inv-loop
     μ-loop
     loop-holds
-    shared-slice-read-file
+    (λ c. search needs)
     slice-write-file
     add-next
-    add-j
-    loop-less
+    (λ c. search needs)
+    (λ c. search needs)
     loop-again
     same-length
     returns)

@@ -25,9 +25,6 @@ loop-holds c =
     let w = c .before .before .write-word in
     (search needs, turns-none (w .last .1 .0) (w .result) _ (omega (arith, c .before .before .before .before .before .before .pre .1, w .ensures .behind)))
 
-mul-write-word : tie.Need-mul-write-word Inv-loop μ-loop
-mul-write-word c = search needs
-
 shared-slice-read-write-word : tie.Need-shared-slice-read-write-word Inv-loop μ-loop
 shared-slice-read-write-word c = omega (arith, c .before .before .before .before .before .before .before .before .before .pre .0)
 
@@ -37,12 +34,6 @@ write-word-requires-2 c κs =
     let w = c .before .before .before .before .before .before .write-word in
     let p = c .before .before .before .before .before .before .before .before .before .before .pre in
     turns-room (λ k. word (at (a .scores .now) k)) (c .before .before .before .loop .inv .1) (a .m) (omega arith) (omega (arith, p .1, w .ensures .behind))
-
-add-j : tie.Need-add-j Inv-loop μ-loop
-add-j c = search needs
-
-loop-less : tie.Need-loop-less Inv-loop μ-loop
-loop-less c = search needs
 
 loop-again : tie.Need-loop-again Inv-loop μ-loop
 loop-again c = (omega arith, turns-more _ (c .before .before .before .before .before .before .loop .inv .1) (c .before .before .write-word2 .ensures))
@@ -61,11 +52,11 @@ write-scores-spec =
     μ-loop
     write-word-requires
     loop-holds
-    mul-write-word
+    (λ c. search needs)
     shared-slice-read-write-word
     write-word-requires-2
-    add-j
-    loop-less
+    (λ c. search needs)
+    (λ c. search needs)
     loop-again
     same-length
     returns)

@@ -31,21 +31,6 @@ street c =
     let mark = c .before .before .before .before .before .before .before .before .before .before .write-word .ensures in
     written-next (written-next mark (w .ensures)) (written-next size (c .before .before .write-list .ensures))
 
-write-word-requires : tie.Need-write-word-requires
-write-word-requires c κs = search needs
-
-write-word-requires-2 : tie.Need-write-word-requires-2
-write-word-requires-2 c κs = search needs
-
-cast-file : tie.Need-cast-file
-cast-file c = search needs
-
-slice-write-file : tie.Need-slice-write-file
-slice-write-file c = search needs
-
-add-write-list : tie.Need-add-write-list
-add-write-list c = search needs
-
 write-list-requires : tie.Need-write-list-requires
 write-list-requires c κs =
     let r = room (c .before) in
@@ -63,11 +48,11 @@ pub write-street-spec : {M : Type 1} → statement M
 write-street-spec =
     tie.close
     (tie.spec
-    write-word-requires
-    write-word-requires-2
-    cast-file
-    slice-write-file
-    add-write-list
+    (λ c κs. search needs)
+    (λ c κs. search needs)
+    (λ c. search needs)
+    (λ c. search needs)
+    (λ c. search needs)
     write-list-requires
     same-length
     returns)

@@ -20,9 +20,6 @@ abbrev μ-loop : tie.MeasureT-loop
 loop-holds : tie.Need-loop-holds Inv-loop μ-loop
 loop-holds c = let a = c .before .before .args in (search needs, turns-none (a .file .now) (a .i) _ (omega (arith, c .before .before .pre .3)))
 
-add-write-street : tie.Need-add-write-street Inv-loop μ-loop
-add-write-street c = search needs
-
 cast-write-street : tie.Need-cast-write-street Inv-loop μ-loop
 cast-write-street c = omega (arith, c .before .before .before .before .pre .0)
 
@@ -38,12 +35,6 @@ write-street-requires c κs =
     let l = c .before .before .before .loop in
     let room = turns-room (streetBytes (a .m) (a .rows .now)) (l .inv .1) (a .n) (omega arith) (p .3) in
     street-fits (a .m) (a .rows .now) (l .s) _ (c .before .list-of .ensures) (l .next) (l .file) (p .1) room
-
-add-s : tie.Need-add-s Inv-loop μ-loop
-add-s c = search needs
-
-loop-less : tie.Need-loop-less Inv-loop μ-loop
-loop-less c = search needs
 
 loop-again : tie.Need-loop-again Inv-loop μ-loop
 loop-again c =
@@ -65,12 +56,12 @@ write-streets-spec =
     Inv-loop
     μ-loop
     loop-holds
-    add-write-street
+    (λ c. search needs)
     cast-write-street
     list-of-requires
     write-street-requires
-    add-s
-    loop-less
+    (λ c. search needs)
+    (λ c. search needs)
     loop-again
     same-length
     returns)

@@ -32,29 +32,17 @@ town c =
 write-word-requires : tie.Need-write-word-requires
 write-word-requires c κs = omega (arith, c .before .before .pre .4)
 
-cast-write-word : tie.Need-cast-write-word
-cast-write-word c = search needs
-
 write-word-requires-2 : tie.Need-write-word-requires-2
 write-word-requires-2 c κs = omega (arith, c .before .before .before .before .before .before .pre .4, c .before .before .before .write-word .ensures .behind)
 
-cast-file : tie.Need-cast-file
-cast-file c = search needs
-
 slice-write-file : tie.Need-slice-write-file
 slice-write-file c = let r = room c in omega arith
-
-cast-file-2 : tie.Need-cast-file-2
-cast-file-2 c = search needs
 
 add-file : tie.Need-add-file
 add-file c = let r = room c in omega arith
 
 slice-write-file-2 : tie.Need-slice-write-file-2
 slice-write-file-2 c = let r = room c in lt-length-set (c .before .before .write-word2 .last .1 .0) _ _ (omega arith)
-
-cast-file-3 : tie.Need-cast-file-3
-cast-file-3 c = search needs
 
 add-file-2 : tie.Need-add-file-2
 add-file-2 c = let r = room c in omega arith
@@ -80,14 +68,14 @@ write-town-spec =
     tie.close
     (tie.spec
     write-word-requires
-    cast-write-word
+    (λ c. search needs)
     write-word-requires-2
-    cast-file
+    (λ c. search needs)
     slice-write-file
-    cast-file-2
+    (λ c. search needs)
     add-file
     slice-write-file-2
-    cast-file-3
+    (λ c. search needs)
     add-file-2
     slice-write-file-3
     add-result

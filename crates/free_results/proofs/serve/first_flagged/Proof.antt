@@ -21,9 +21,6 @@ abbrev μ-loop : tie.MeasureT-loop
 loop-holds : tie.Need-loop-holds Inv-loop μ-loop
 loop-holds c = (search needs, refl, refl)
 
-shared-slice-read-site : tie.Need-shared-slice-read-site Inv-loop μ-loop
-shared-slice-read-site c = search needs
-
 returns : tie.Need-returns Inv-loop μ-loop
 returns c =
     let a = c .before .before .before .before .args in
@@ -41,12 +38,6 @@ returns-2 c =
     let a = c .before .before .before .before .before .before .args in
     let l = c .before .before .before .before .before .loop in
     goes-found (λ x. getD (a .marks .now) x false) (a .row .now) (l .j) (l .inv .2) (omega arith) (c .before .before .if1 .left) (c .if2 .taken)
-
-add-j : tie.Need-add-j Inv-loop μ-loop
-add-j c = search needs
-
-loop-less : tie.Need-loop-less Inv-loop μ-loop
-loop-less c = search needs
 
 loop-again : tie.Need-loop-again Inv-loop μ-loop
 loop-again c =
@@ -67,12 +58,12 @@ first-flagged-spec =
     Inv-loop
     μ-loop
     loop-holds
-    shared-slice-read-site
+    (λ c. search needs)
     returns
     cast-flag
     shared-slice-read-if2
     returns-2
-    add-j
-    loop-less
+    (λ c. search needs)
+    (λ c. search needs)
     loop-again
     returns-3)

@@ -30,15 +30,6 @@ street-requires c κs =
     let p = c .before .before .before .before .before .pre in
     (omega (arith, row-within (length (a .division .now)) (a .m) (c .before .loop .s) (omega arith), p .0), p .1)
 
-slice-write-division : tie.Need-slice-write-division Inv-loop μ-loop
-slice-write-division c = search needs
-
-add-s : tie.Need-add-s Inv-loop μ-loop
-add-s c = search needs
-
-loop-less : tie.Need-loop-less Inv-loop μ-loop
-loop-less c = search needs
-
 loop-again : tie.Need-loop-again Inv-loop μ-loop
 loop-again c = let l = c .before .before .loop in (omega arith, refl, mapped-more _ _ (l .division) (l .s) _ (omega arith) (l .inv .2) (c .street .ensures))
 
@@ -56,9 +47,9 @@ serve-spec =
     μ-loop
     loop-holds
     street-requires
-    slice-write-division
-    add-s
-    loop-less
+    (λ c. search needs)
+    (λ c. search needs)
+    (λ c. search needs)
     loop-again
     same-length
     returns)

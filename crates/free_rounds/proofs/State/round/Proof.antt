@@ -13,21 +13,12 @@ use Rattle.free_rounds.proofs.Rounded.{bests-small, choice-is, bounds-o
 use Rattle.free_rounds.proofs.State.round.Statement.{statement}
 use Rattle.free_rounds.proofs.State.round.Tie as tie
 
-array-share-prefix-bests : tie.Need-array-share-prefix-bests
-array-share-prefix-bests c = search needs
-
 slice-aggregate-choose : tie.Need-slice-aggregate-choose
 slice-aggregate-choose c =
     let a = c .before .before .before .before .before .args in
     let p = c .before .before .before .before .before .pre in
     let whole = length-take-le (a .n) (a .self .bests) (omega (arith, p .0 .few-streets, p .1 .0 .0 .bests-size)) in
     sym whole
-
-slice-aggregate-choose-2 : tie.Need-slice-aggregate-choose-2
-slice-aggregate-choose-2 c = search needs
-
-slice-aggregate-choose-3 : tie.Need-slice-aggregate-choose-3
-slice-aggregate-choose-3 c = search needs
 
 choose-requires : tie.Need-choose-requires
 choose-requires c κs =
@@ -69,10 +60,10 @@ pub round-spec : {M : Type 1} → statement M
 round-spec =
     tie.close
     (tie.spec
-    array-share-prefix-bests
+    (λ c. search needs)
     slice-aggregate-choose
-    slice-aggregate-choose-2
-    slice-aggregate-choose-3
+    (λ c. search needs)
+    (λ c. search needs)
     choose-requires
     cast-taking
     taking-requires

@@ -13,15 +13,6 @@ use lib.Seq.{length-take-le}
 use Rattle.free_rounds.proofs.State.taking.Statement.{statement}
 use Rattle.free_rounds.proofs.State.taking.Tie as tie
 
-element-write-self : tie.Need-element-write-self
-element-write-self c = search needs
-
-add-self : tie.Need-add-self
-add-self c = search needs
-
-element-write-self-2 : tie.Need-element-write-self-2
-element-write-self-2 c = search needs
-
 mul-from : tie.Need-mul-from
 mul-from c =
     let a = c .before .args in
@@ -33,9 +24,6 @@ add-to c =
     let a = c .before .args in
     let e = row-ends (a .n) (a .m) (a .site) (a .values .now) (c .before .pre .0) (c .before .pre .1 .1 .0) in
     omega arith
-
-array-borrow-prefix-bests : tie.Need-array-borrow-prefix-bests
-array-borrow-prefix-bests c = search needs
 
 slice-aggregate-raise : tie.Need-slice-aggregate-raise
 slice-aggregate-raise c =
@@ -49,12 +37,6 @@ mul-raise c =
     let p = c .before .before .before .pre in
     let e = row-ends (a .n) (a .m) (a .site) (a .values .now) (p .0) (p .1 .1 .0) in
     omega arith
-
-sub-raise : tie.Need-sub-raise
-sub-raise c = search needs
-
-part-raise-start : tie.Need-part-raise-start
-part-raise-start c = search needs
 
 part-raise-end : tie.Need-part-raise-end
 part-raise-end c =
@@ -86,16 +68,16 @@ pub taking-spec : {M : Type 1} → statement M
 taking-spec =
     tie.close
     (tie.spec
-    element-write-self
-    add-self
-    element-write-self-2
+    (λ c. search needs)
+    (λ c. search needs)
+    (λ c. search needs)
     mul-from
     add-to
-    array-borrow-prefix-bests
+    (λ c. search needs)
     slice-aggregate-raise
     mul-raise
-    sub-raise
-    part-raise-start
+    (λ c. search needs)
+    (λ c. search needs)
     part-raise-end
     raise-requires
     returns)

@@ -56,12 +56,6 @@ loop-holds c =
     let a = c .before .before .before .before .before .args in
     (search needs, refl, c .sum .ensures, c .before .before .before .before .before .pre .1, marks-start (withSite (a .values .now) (a .bests .now)) (a .marks .now))
 
-add-a : tie.Need-add-a Inv-loop μ-loop
-add-a c = search needs
-
-mul-mark : tie.Need-mul-mark Inv-loop μ-loop
-mul-mark c = search needs
-
 slice-read-mark : tie.Need-slice-read-mark Inv-loop μ-loop
 slice-read-mark c = let q = sizes (c .before) in omega arith
 
@@ -82,12 +76,6 @@ add-to c = let e = ends c in omega arith
 
 mul-sum-with : tie.Need-mul-sum-with Inv-loop μ-loop
 mul-sum-with c = let e = ends c in omega arith
-
-sub-sum-with : tie.Need-sub-sum-with Inv-loop μ-loop
-sub-sum-with c = search needs
-
-part-sum-with-start : tie.Need-part-sum-with-start Inv-loop μ-loop
-part-sum-with-start c = search needs
 
 part-sum-with-end : tie.Need-part-sum-with-end Inv-loop μ-loop
 part-sum-with-end c = let e = ends c in omega arith
@@ -115,9 +103,6 @@ summed c =
 sub-bounds : tie.Need-sub-bounds Inv-loop μ-loop
 sub-bounds c = let q = summed c in omega arith
 
-mul-bounds : tie.Need-mul-bounds Inv-loop μ-loop
-mul-bounds c = search needs
-
 slice-write-bounds : tie.Need-slice-write-bounds Inv-loop μ-loop
 slice-write-bounds c = let q = sizes (c .before .before .before .before .before .before .before) in omega arith
 
@@ -126,15 +111,6 @@ shared-slice-read-mark-2 c = let q = sizes (c .before .before .before .before .b
 
 mark-requires-2 : tie.Need-mark-requires-2 Inv-loop μ-loop
 mark-requires-2 c κs = let q = summed (c .before) in omega arith
-
-better-requires : tie.Need-better-requires Inv-loop μ-loop
-better-requires c κs = search needs
-
-add-i : tie.Need-add-i Inv-loop μ-loop
-add-i c = search needs
-
-loop-less : tie.Need-loop-less Inv-loop μ-loop
-loop-less c = search needs
 
 loop-again : tie.Need-loop-again Inv-loop μ-loop
 loop-again c =
@@ -180,8 +156,8 @@ choose-spec =
     μ-loop
     sum-requires
     loop-holds
-    add-a
-    mul-mark
+    (λ c. search needs)
+    (λ c. search needs)
     slice-read-mark
     add-mark
     shared-slice-read-mark
@@ -189,18 +165,18 @@ choose-spec =
     mul-from
     add-to
     mul-sum-with
-    sub-sum-with
-    part-sum-with-start
+    (λ c. search needs)
+    (λ c. search needs)
     part-sum-with-end
     sum-with-requires
     sub-bounds
-    mul-bounds
+    (λ c. search needs)
     slice-write-bounds
     shared-slice-read-mark-2
     mark-requires-2
-    better-requires
-    add-i
-    loop-less
+    (λ c κs. search needs)
+    (λ c. search needs)
+    (λ c. search needs)
     loop-again
     same-length
     returns)

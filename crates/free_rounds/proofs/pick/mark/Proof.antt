@@ -7,11 +7,8 @@ use Rattle.free_rounds.proofs.pick.mark.Tie as tie
 returns : tie.Need-returns
 returns c = search chain
 
-add-result : tie.Need-add-result
-add-result c = search needs
-
 returns-2 : tie.Need-returns-2
 returns-2 c = search chain
 
 pub mark-spec : {M : Type 1} → statement M
-mark-spec = tie.close (tie.spec returns add-result returns-2)
+mark-spec = tie.close (tie.spec returns (λ c. search needs) returns-2)

@@ -21,40 +21,10 @@ abbrev μ-loop : tie.MeasureT-loop
 loop-holds : tie.Need-loop-holds Inv-loop μ-loop
 loop-holds c = (search needs, refl, refl)
 
-part-end-requires : tie.Need-part-end-requires Inv-loop μ-loop
-part-end-requires c κs = search needs
-
-mul-part : tie.Need-mul-part Inv-loop μ-loop
-mul-part c = search needs
-
-sub-part : tie.Need-sub-part Inv-loop μ-loop
-sub-part c = search needs
-
-part-part-start : tie.Need-part-part-start Inv-loop μ-loop
-part-part-start c = search needs
-
-part-part-end : tie.Need-part-part-end Inv-loop μ-loop
-part-part-end c = search needs
-
-mul-part-2 : tie.Need-mul-part-2 Inv-loop μ-loop
-mul-part-2 c = search needs
-
-sub-part-2 : tie.Need-sub-part-2 Inv-loop μ-loop
-sub-part-2 c = search needs
-
-part-part-start-2 : tie.Need-part-part-start-2 Inv-loop μ-loop
-part-part-start-2 c = search needs
-
-part-part-end-2 : tie.Need-part-part-end-2 Inv-loop μ-loop
-part-part-end-2 c = search needs
-
 part-requires : tie.Need-part-requires Inv-loop μ-loop
 part-requires c κs =
     let a = c .before .before .before .before .before .before .before .args in
     part-ready (c .before .before .before .before .loop .from) _ (a .bests .now) (a .row .now) (c .before .before .before .before .before .before .before .pre) (c .before .before .part-end .ensures)
-
-wide-requires : tie.Need-wide-requires Inv-loop μ-loop
-wide-requires c κs = search needs
 
 -- after a part: the streets up to its end are summed, which is not great
 summed : (c : tie.After-wide Inv-loop μ-loop) →
@@ -70,9 +40,6 @@ summed c =
 
 add-raised : tie.Need-add-raised Inv-loop μ-loop
 add-raised c = let q = summed c in omega arith
-
-loop-less : tie.Need-loop-less Inv-loop μ-loop
-loop-less c = search needs
 
 loop-again : tie.Need-loop-again Inv-loop μ-loop
 loop-again c = (search needs, refl, summed c .0)
@@ -90,18 +57,18 @@ sum-with-spec =
     Inv-loop
     μ-loop
     loop-holds
-    part-end-requires
-    mul-part
-    sub-part
-    part-part-start
-    part-part-end
-    mul-part-2
-    sub-part-2
-    part-part-start-2
-    part-part-end-2
+    (λ c κs. search needs)
+    (λ c. search needs)
+    (λ c. search needs)
+    (λ c. search needs)
+    (λ c. search needs)
+    (λ c. search needs)
+    (λ c. search needs)
+    (λ c. search needs)
+    (λ c. search needs)
     part-requires
-    wide-requires
+    (λ c κs. search needs)
     add-raised
-    loop-less
+    (λ c. search needs)
     loop-again
     returns)

@@ -45,18 +45,6 @@ loop-holds c =
     let p = c .before .before .before .before .before .pre in
     (search needs, search needs, search needs, meeting-start _ _ _ _ _ _ _ _ (p .1 .1))
 
-mul-better : tie.Need-mul-better Inv-loop μ-loop
-mul-better c = search needs
-
-slice-read-better : tie.Need-slice-read-better Inv-loop μ-loop
-slice-read-better c = search needs
-
-mul-better-2 : tie.Need-mul-better-2 Inv-loop μ-loop
-mul-better-2 c = search needs
-
-slice-read-better-2 : tie.Need-slice-read-better-2 Inv-loop μ-loop
-slice-read-better-2 c = search needs
-
 add-better : tie.Need-add-better Inv-loop μ-loop
 add-better c = omega (arith, ends (c .before .before .before .before .before .before .before .before .before))
 
@@ -76,27 +64,6 @@ sub-better c =
     let a = c .before .before .before .before .before .before .before .before .before .before .args in
     omega (arith, c .before .before .before .before .before .before .before .before .before .before .pre .0 .small (a .s * a .w + a .a))
 
-better-requires : tie.Need-better-requires Inv-loop μ-loop
-better-requires c κs = search needs
-
-mul-gains : tie.Need-mul-gains Inv-loop μ-loop
-mul-gains c = search needs
-
-slice-write-gains : tie.Need-slice-write-gains Inv-loop μ-loop
-slice-write-gains c = search needs
-
-mul-pairs : tie.Need-mul-pairs Inv-loop μ-loop
-mul-pairs c = search needs
-
-slice-write-pairs : tie.Need-slice-write-pairs Inv-loop μ-loop
-slice-write-pairs c = search needs
-
-add-b : tie.Need-add-b Inv-loop μ-loop
-add-b c = search needs
-
-loop-less : tie.Need-loop-less Inv-loop μ-loop
-loop-less c = search needs
-
 loop-again : tie.Need-loop-again Inv-loop μ-loop
 loop-again c =
     let p = c .before .before .before .before .before .before .before .before .before .before .before .pre in
@@ -105,12 +72,6 @@ loop-again c =
     let more = pair-more _ _ _ _ _ (l .b) _ _ _ _ (p .1 .0 .0) (p .1 .0 .4) (p .0 .small _) (p .0 .small _) (c .better .ensures) old in
     let next = meeting-more _ _ _ _ _ _ (l .b) _ _ (l .gains) (l .pairs) (omega arith) (omega arith) (l .inv .3) more in
     (omega arith, simp length-set (l .inv .1), simp length-set (l .inv .2), next)
-
-same-length : tie.Need-same-length Inv-loop μ-loop
-same-length c = search needs
-
-same-length-2 : tie.Need-same-length-2 Inv-loop μ-loop
-same-length-2 c = search needs
 
 returns : tie.Need-returns Inv-loop μ-loop
 returns c = let l = c .before .loop in meeting-end _ _ _ _ _ _ (l .b) _ _ (omega arith) (l .inv .3)
@@ -127,23 +88,23 @@ meet-spec =
     shared-slice-read-own
     cast-street
     loop-holds
-    mul-better
-    slice-read-better
-    mul-better-2
-    slice-read-better-2
+    (λ c. search needs)
+    (λ c. search needs)
+    (λ c. search needs)
+    (λ c. search needs)
     add-better
     mul-better-3
     shared-slice-read-better
     add-better-2
     sub-better
-    better-requires
-    mul-gains
-    slice-write-gains
-    mul-pairs
-    slice-write-pairs
-    add-b
-    loop-less
+    (λ c κs. search needs)
+    (λ c. search needs)
+    (λ c. search needs)
+    (λ c. search needs)
+    (λ c. search needs)
+    (λ c. search needs)
+    (λ c. search needs)
     loop-again
-    same-length
-    same-length-2
+    (λ c. search needs)
+    (λ c. search needs)
     returns)

@@ -18,9 +18,6 @@ Inv-loop values division w a pairs₀ gains₀ s₀ s-end pairs gains s =
 abbrev μ-loop : tie.MeasureT-loop
 μ-loop values division w a pairs₀ gains₀ s₀ s-end pairs gains s = s-end - s
 
-clear-requires : tie.Need-clear-requires Inv-loop μ-loop
-clear-requires c κs = search needs
-
 loop-holds : tie.Need-loop-holds Inv-loop μ-loop
 loop-holds c =
     let a = c .before .before .before .before .before .before .before .before .args in
@@ -34,20 +31,8 @@ visit-requires c κs =
     let l = c .before .before .before .loop in
     (p .0, ((omega arith, p .1 .0, l .inv .2, l .inv .3), l .inv .4))
 
-add-s : tie.Need-add-s Inv-loop μ-loop
-add-s c = search needs
-
-loop-less : tie.Need-loop-less Inv-loop μ-loop
-loop-less c = search needs
-
 loop-again : tie.Need-loop-again Inv-loop μ-loop
 loop-again c = (omega arith, refl, search needs, search needs, c .before .before .before .before .visit .ensures)
-
-same-length : tie.Need-same-length Inv-loop μ-loop
-same-length c = search needs
-
-same-length-2 : tie.Need-same-length-2 Inv-loop μ-loop
-same-length-2 c = search needs
 
 returns : tie.Need-returns Inv-loop μ-loop
 returns c = let l = c .before .loop in row-end _ _ _ _ (l .s) _ _ _ (omega arith) (omega arith) (l .inv .4)
@@ -58,12 +43,12 @@ rebuild-spec =
     (tie.spec
     Inv-loop
     μ-loop
-    clear-requires
+    (λ c κs. search needs)
     loop-holds
     visit-requires
-    add-s
-    loop-less
+    (λ c. search needs)
+    (λ c. search needs)
     loop-again
-    same-length
-    same-length-2
+    (λ c. search needs)
+    (λ c. search needs)
     returns)

@@ -10,41 +10,17 @@ Inv-loop set size₀ i₀ i-end size i = (i ≤ i-end) × (i-end ≤ 5) × (size
 abbrev μ-loop : tie.MeasureT-loop
 μ-loop set size₀ i₀ i-end size i = i-end - i
 
-loop-holds : tie.Need-loop-holds Inv-loop μ-loop
-loop-holds c = search needs
-
-add-add-if : tie.Need-add-add-if Inv-loop μ-loop
-add-add-if c = search needs
-
-array-read-add-if : tie.Need-array-read-add-if Inv-loop μ-loop
-array-read-add-if c = search needs
-
-add-if-requires : tie.Need-add-if-requires Inv-loop μ-loop
-add-if-requires c κs = search needs
-
-add-i : tie.Need-add-i Inv-loop μ-loop
-add-i c = search needs
-
-loop-less : tie.Need-loop-less Inv-loop μ-loop
-loop-less c = search needs
-
-loop-again : tie.Need-loop-again Inv-loop μ-loop
-loop-again c = search needs
-
-returns : tie.Need-returns Inv-loop μ-loop
-returns c = search needs
-
 pub size-of-spec : {M : Type 1} → statement M
 size-of-spec =
     tie.close
     (tie.spec
     Inv-loop
     μ-loop
-    loop-holds
-    add-add-if
-    array-read-add-if
-    add-if-requires
-    add-i
-    loop-less
-    loop-again
-    returns)
+    (λ c. search needs)
+    (λ c. search needs)
+    (λ c. search needs)
+    (λ c κs. search needs)
+    (λ c. search needs)
+    (λ c. search needs)
+    (λ c. search needs)
+    (λ c. search needs))

@@ -5,20 +5,8 @@ use Rattle.queues.proofs.Homeward.{lowest-new, lowest-keep}
 use Rattle.queues.proofs.home.lower.Statement.{statement}
 use Rattle.queues.proofs.home.lower.Tie as tie
 
-shared-slice-read-b : tie.Need-shared-slice-read-b
-shared-slice-read-b c = search needs
-
-shared-slice-read-if1 : tie.Need-shared-slice-read-if1
-shared-slice-read-if1 c = search needs
-
 returns : tie.Need-returns
 returns c = lowest-keep (c .before .before .before .before .before .before .before .pre .1 .1) (λ t. c .if1 .taken)
-
-cast-tight : tie.Need-cast-tight
-cast-tight c = search needs
-
-tight-requires : tie.Need-tight-requires
-tight-requires c κs = search needs
 
 returns-2 : tie.Need-returns-2
 returns-2 c =
@@ -34,10 +22,10 @@ pub lower-spec : {M : Type 1} → statement M
 lower-spec =
     tie.close
     (tie.spec
-    shared-slice-read-b
-    shared-slice-read-if1
+    (λ c. search needs)
+    (λ c. search needs)
     returns
-    cast-tight
-    tight-requires
+    (λ c. search needs)
+    (λ c κs. search needs)
     returns-2
     returns-3)

@@ -23,12 +23,6 @@ lower-requires c κs =
     let p = c .before .before .before .before .before .before .pre in
     (p .0, ((p .1 .0 .0, omega arith, p .1 .1 (l .i) (omega arith)), l .inv .2))
 
-add-i : tie.Need-add-i Inv-loop μ-loop
-add-i c = search needs
-
-loop-less : tie.Need-loop-less Inv-loop μ-loop
-loop-less c = search needs
-
 loop-again : tie.Need-loop-again Inv-loop μ-loop
 loop-again c = (omega arith, omega arith, c .lower .ensures)
 
@@ -40,4 +34,4 @@ returns c =
 pub lowest-spec : {M : Type 1} → statement M
 lowest-spec =
     tie.close
-    (tie.spec Inv-loop μ-loop loop-holds lower-requires add-i loop-less loop-again returns)
+    (tie.spec Inv-loop μ-loop loop-holds lower-requires (λ c. search needs) (λ c. search needs) loop-again returns)

@@ -27,17 +27,8 @@ loop-holds c =
     let q = c .before .before .before .before .before .pre .1 .0 .1 in
     (omega arith, turning-start _ _ _ _ _ _ q, refl, λ v d shares h. h)
 
-shared-slice-read-next : tie.Need-shared-slice-read-next Inv-loop μ-loop
-shared-slice-read-next c = search needs
-
 cast-next : tie.Need-cast-next Inv-loop μ-loop
 cast-next c = omega (arith, c .shared-slice-known4 .given (c .before .before .loop .p))
-
-mul-t : tie.Need-mul-t Inv-loop μ-loop
-mul-t c = search needs
-
-shared-slice-read-t : tie.Need-shared-slice-read-t Inv-loop μ-loop
-shared-slice-read-t c = search needs
 
 shared-slice-read-x : tie.Need-shared-slice-read-x Inv-loop μ-loop
 shared-slice-read-x c =
@@ -98,9 +89,6 @@ loop-again c =
     let r = c .before .before .raise in
     (omega arith, turning-step q (l .inv .1) (start .pre .1 .0 .0) (omega arith) (omega arith), r .kept .0 ∙ l .inv .2, λ v d shares h. limits-move (l .inv .3 v d shares h) _ _ _ (omega (arith, l .inv .1 .long, later .street)) (r .ensures))
 
-shared-slice-read-division : tie.Need-shared-slice-read-division Inv-loop μ-loop
-shared-slice-read-division c = search needs
-
 slice-write-division-2 : tie.Need-slice-write-division-2 Inv-loop μ-loop
 slice-write-division-2 c = omega (arith, c .before .before .loop .inv .1 .long)
 
@@ -128,10 +116,10 @@ turn-spec =
     Inv-loop
     μ-loop
     loop-holds
-    shared-slice-read-next
+    (λ c. search needs)
     cast-next
-    mul-t
-    shared-slice-read-t
+    (λ c. search needs)
+    (λ c. search needs)
     shared-slice-read-x
     cast-division
     slice-write-division
@@ -140,7 +128,7 @@ turn-spec =
     raise-requires
     loop-less
     loop-again
-    shared-slice-read-division
+    (λ c. search needs)
     slice-write-division-2
     same-length
     same-length-2

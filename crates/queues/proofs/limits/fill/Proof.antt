@@ -18,17 +18,8 @@ abbrev μ-loop : tie.MeasureT-loop
 loop-holds : tie.Need-loop-holds Inv-loop μ-loop
 loop-holds c = (search needs, refl, mapped-none _ _)
 
-mul-limits : tie.Need-mul-limits Inv-loop μ-loop
-mul-limits c = search needs
-
 slice-write-limits : tie.Need-slice-write-limits Inv-loop μ-loop
 slice-write-limits c = let l = c .before .loop in omega (arith, l .inv .2 .size)
-
-add-x : tie.Need-add-x Inv-loop μ-loop
-add-x c = search needs
-
-loop-less : tie.Need-loop-less Inv-loop μ-loop
-loop-less c = search needs
 
 loop-again : tie.Need-loop-again Inv-loop μ-loop
 loop-again c = let l = c .before .loop in (omega arith, refl, mapped-more _ _ (l .limits) (l .x) _ (omega (arith, l .inv .2 .size)) (l .inv .2) refl)
@@ -46,10 +37,10 @@ fill-spec =
     Inv-loop
     μ-loop
     loop-holds
-    mul-limits
+    (λ c. search needs)
     slice-write-limits
-    add-x
-    loop-less
+    (λ c. search needs)
+    (λ c. search needs)
     loop-again
     same-length
     returns)

@@ -18,12 +18,6 @@ Inv-loop values shares prices division s x limits₀ e₀ limits e =
 abbrev μ-loop : tie.MeasureT-loop
 μ-loop values shares prices division s x limits₀ e₀ limits e = e
 
-mul-e : tie.Need-mul-e Inv-loop μ-loop
-mul-e c = search needs
-
-slice-read-e : tie.Need-slice-read-e Inv-loop μ-loop
-slice-read-e c = search needs
-
 cast-e : tie.Need-cast-e Inv-loop μ-loop
 cast-e c =
     let start = c .before .before .before .before .before .before in
@@ -39,9 +33,6 @@ add-loop c =
     let start = c .before .before .before .before .before .before .before in
     omega (arith, start .pre .0 .few, start .pre .1 .0 .0)
 
-sub-stands : tie.Need-sub-stands Inv-loop μ-loop
-sub-stands c = search needs
-
 stands-requires : tie.Need-stands-requires Inv-loop μ-loop
 stands-requires c κs =
     let l = c .before .loop in
@@ -54,9 +45,6 @@ cast-limits c =
     let start = c .before .before .before .before .before .before .before .before .before .before in
     let p = start .pre in
     omega (arith, p .0 .few, l .inv .1)
-
-mul-limits : tie.Need-mul-limits Inv-loop μ-loop
-mul-limits c = search needs
 
 slice-write-limits : tie.Need-slice-write-limits Inv-loop μ-loop
 slice-write-limits c =
@@ -79,12 +67,6 @@ returns c =
     let stands = c .before .stands .ensures .0 (c .if1 .taken) in
     rw (l .inv .0) (λ e. fallen-last (p .1 .0 .1) f (omega arith) (l .inv .1) stands, (λ e. absurd (true≢false e), (fallen (p .1 .0 .1) f (p .1 .1), fallen-low (p .1 .0 .1) f)))
 
-sub-e : tie.Need-sub-e Inv-loop μ-loop
-sub-e c = search needs
-
-loop-less : tie.Need-loop-less Inv-loop μ-loop
-loop-less c = search needs
-
 loop-again : tie.Need-loop-again Inv-loop μ-loop
 loop-again c =
     let l = c .before .before .before .loop in
@@ -96,9 +78,6 @@ cast-limits-2 c =
     let start = c .before .before .before .before .before .before .before .before in
     let p = start .pre in
     omega (arith, p .0 .few, l .inv .1)
-
-mul-limits-2 : tie.Need-mul-limits-2 Inv-loop μ-loop
-mul-limits-2 c = search needs
 
 slice-write-limits-2 : tie.Need-slice-write-limits-2 Inv-loop μ-loop
 slice-write-limits-2 c =
@@ -126,23 +105,23 @@ lower-spec =
     (tie.spec
     Inv-loop
     μ-loop
-    mul-e
-    slice-read-e
+    (λ c. search needs)
+    (λ c. search needs)
     cast-e
     loop-holds
     add-loop
-    sub-stands
+    (λ c. search needs)
     stands-requires
     cast-limits
-    mul-limits
+    (λ c. search needs)
     slice-write-limits
     same-length
     returns
-    sub-e
-    loop-less
+    (λ c. search needs)
+    (λ c. search needs)
     loop-again
     cast-limits-2
-    mul-limits-2
+    (λ c. search needs)
     slice-write-limits-2
     same-length-2
     returns-2)

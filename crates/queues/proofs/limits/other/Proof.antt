@@ -4,9 +4,6 @@ use native.Mathlib.Omega.{arith}
 use Rattle.queues.proofs.limits.other.Statement.{statement}
 use Rattle.queues.proofs.limits.other.Tie as tie
 
-shared-slice-read-if1 : tie.Need-shared-slice-read-if1
-shared-slice-read-if1 c = search needs
-
 cast-if1 : tie.Need-cast-if1
 cast-if1 c =
     let start = c .before .before .before .before .before in
@@ -16,11 +13,8 @@ cast-if1 c =
 returns : tie.Need-returns
 returns c = λ e l away t. away (c .if1 .taken)
 
-may-requires : tie.Need-may-requires
-may-requires c κs = search needs
-
 returns-2 : tie.Need-returns-2
 returns-2 c = λ e l away t. c .may .ensures .1 e (l, t)
 
 pub other-spec : {M : Type 1} → statement M
-other-spec = tie.close (tie.spec shared-slice-read-if1 cast-if1 returns may-requires returns-2)
+other-spec = tie.close (tie.spec (λ c. search needs) cast-if1 returns (λ c κs. search needs) returns-2)

@@ -6,9 +6,6 @@ use native.Mathlib.Omega.{arith}
 use Rattle.queues.proofs.limits.stands.Statement.{statement}
 use Rattle.queues.proofs.limits.stands.Tie as tie
 
-shared-slice-read-if1 : tie.Need-shared-slice-read-if1
-shared-slice-read-if1 c = search needs
-
 cast-if1 : tie.Need-cast-if1
 cast-if1 c =
     let start = c .before .before .before .before .before in
@@ -18,11 +15,8 @@ cast-if1 c =
 returns : tie.Need-returns
 returns c = (λ e. absurd (true≢false (sym e)), λ e q. absurd (c .if1 .taken q))
 
-leaves-requires : tie.Need-leaves-requires
-leaves-requires c κs = search needs
-
 returns-2 : tie.Need-returns-2
 returns-2 c = (λ e. omega arith, λ e q. c .leaves .ensures e)
 
 pub stands-spec : {M : Type 1} → statement M
-stands-spec = tie.close (tie.spec shared-slice-read-if1 cast-if1 returns leaves-requires returns-2)
+stands-spec = tie.close (tie.spec (λ c. search needs) cast-if1 returns (λ c κs. search needs) returns-2)

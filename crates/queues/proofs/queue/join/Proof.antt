@@ -10,9 +10,6 @@ use Rattle.queues.proofs.Bounds.{joinable, joining}
 use Rattle.queues.proofs.queue.join.Statement.{statement}
 use Rattle.queues.proofs.queue.join.Tie as tie
 
-shared-slice-read-x : tie.Need-shared-slice-read-x
-shared-slice-read-x c = search needs
-
 cast-x : tie.Need-cast-x
 cast-x c =
     let start = c .before .before .before .before .before .before .before .before in
@@ -64,9 +61,6 @@ slice-write-marks c =
     let p = start .pre in
     let e = joinable (a .i) (a .t) (p .0) (p .1 .0) (p .1 .1 .0) (p .1 .1 .1) in
     e .flagged
-
-cast-streets : tie.Need-cast-streets
-cast-streets c = search needs
 
 mul-streets : tie.Need-mul-streets
 mul-streets c =
@@ -134,18 +128,6 @@ add-result c =
     let r = joining (at (a .division .now) (a .t)) (e .few-sites) (p .1 .0) (p .1 .1 .0) (e .small) new in
     omega arith
 
-same-length : tie.Need-same-length
-same-length c = search needs
-
-same-length-2 : tie.Need-same-length-2
-same-length-2 c = search needs
-
-same-length-3 : tie.Need-same-length-3
-same-length-3 c = search needs
-
-same-length-4 : tie.Need-same-length-4
-same-length-4 c = search needs
-
 returns-3 : tie.Need-returns-3
 returns-3 c =
     let start = c .before .before .before .before .before .before .before .before .before .before .before .before .before in
@@ -164,7 +146,7 @@ pub join-spec : {M : Type 1} → statement M
 join-spec =
     tie.close
     (tie.spec
-    shared-slice-read-x
+    (λ c. search needs)
     cast-x
     slice-read-if1
     returns
@@ -173,7 +155,7 @@ join-spec =
     tight-requires
     returns-2
     slice-write-marks
-    cast-streets
+    (λ c. search needs)
     mul-streets
     slice-write-streets
     cast-nexts
@@ -181,8 +163,8 @@ join-spec =
     cast-sites
     slice-write-sites
     add-result
-    same-length
-    same-length-2
-    same-length-3
-    same-length-4
+    (λ c. search needs)
+    (λ c. search needs)
+    (λ c. search needs)
+    (λ c. search needs)
     returns-3)

@@ -37,9 +37,6 @@ cast-y c =
     let w = walk (a .i) (a .tights .now) (a .ends .now) (p .0) (p .1 .0) (p .1 .1 .0) (p .1 .1 .1 .0) (p .1 .1 .1 .1) in
     omega (arith, w .small)
 
-add-row : tie.Need-add-row Inv-loop μ-loop
-add-row c = search needs
-
 mul-row : tie.Need-mul-row Inv-loop μ-loop
 mul-row c =
     let start = c .before .before .before .before .before .before .before .before .before .before in
@@ -220,7 +217,7 @@ scan-spec =
     μ-loop
     slice-read-y
     cast-y
-    add-row
+    (λ c. search needs)
     mul-row
     mul-j
     shared-slice-read-j

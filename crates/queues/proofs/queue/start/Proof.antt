@@ -6,27 +6,6 @@ use Rattle.queues.proofs.Growth.{placed-start}
 use Rattle.queues.proofs.queue.start.Statement.{statement}
 use Rattle.queues.proofs.queue.start.Tie as tie
 
-clear-requires : tie.Need-clear-requires
-clear-requires c κs = search needs
-
-shared-slice-read-a : tie.Need-shared-slice-read-a
-shared-slice-read-a c = search needs
-
-slice-write-sites : tie.Need-slice-write-sites
-slice-write-sites c = search needs
-
-cast-marks : tie.Need-cast-marks
-cast-marks c = search needs
-
-slice-write-marks : tie.Need-slice-write-marks
-slice-write-marks c = search needs
-
-same-length : tie.Need-same-length
-same-length c = search needs
-
-same-length-2 : tie.Need-same-length-2
-same-length-2 c = search needs
-
 returns : tie.Need-returns
 returns c =
     let t = c .before .before .before in
@@ -40,11 +19,11 @@ pub start-spec : {M : Type 1} → statement M
 start-spec =
     tie.close
     (tie.spec
-    clear-requires
-    shared-slice-read-a
-    slice-write-sites
-    cast-marks
-    slice-write-marks
-    same-length
-    same-length-2
+    (λ c κs. search needs)
+    (λ c. search needs)
+    (λ c. search needs)
+    (λ c. search needs)
+    (λ c. search needs)
+    (λ c. search needs)
+    (λ c. search needs)
     returns)

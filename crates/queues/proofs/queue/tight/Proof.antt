@@ -5,9 +5,6 @@ use Rattle.queues.proofs.Bounds.{tells-equal, weighed}
 use Rattle.queues.proofs.queue.tight.Statement.{statement}
 use Rattle.queues.proofs.queue.tight.Tie as tie
 
-shared-slice-read-x : tie.Need-shared-slice-read-x
-shared-slice-read-x c = search needs
-
 cast-x : tie.Need-cast-x
 cast-x c =
     let start = c .before in
@@ -56,12 +53,6 @@ add-result-2 c =
     let e = weighed (start .args .t) (start .args .y) (start .pre .0) (start .pre .1) in
     omega arith
 
-mul-result-3 : tie.Need-mul-result-3
-mul-result-3 c = search needs
-
-shared-slice-read-result-3 : tie.Need-shared-slice-read-result-3
-shared-slice-read-result-3 c = search needs
-
 add-result-3 : tie.Need-add-result-3
 add-result-3 c =
     let start = c .before .before .before .before in
@@ -93,7 +84,7 @@ pub tight-spec : {M : Type 1} → statement M
 tight-spec =
     tie.close
     (tie.spec
-    shared-slice-read-x
+    (λ c. search needs)
     cast-x
     mul-row
     mul-result
@@ -102,8 +93,8 @@ tight-spec =
     mul-result-2
     shared-slice-read-result-2
     add-result-2
-    mul-result-3
-    shared-slice-read-result-3
+    (λ c. search needs)
+    (λ c. search needs)
     add-result-3
     mul-result-4
     shared-slice-read-result-4

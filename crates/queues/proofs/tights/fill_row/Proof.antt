@@ -31,12 +31,6 @@ push-requires c κs =
     let p = l .before .before .before .before .before .pre in
     (p .0, ((omega arith, p .1 .0, omega (arith, p .1 .1, i .2)), i .3))
 
-add-t : tie.Need-add-t Inv-loop μ-loop
-add-t c = search needs
-
-loop-less : tie.Need-loop-less Inv-loop μ-loop
-loop-less c = search needs
-
 loop-again : tie.Need-loop-again Inv-loop μ-loop
 loop-again c =
     let t = c .before .before in
@@ -60,8 +54,8 @@ fill-row-spec =
     μ-loop
     loop-holds
     push-requires
-    add-t
-    loop-less
+    (λ c. search needs)
+    (λ c. search needs)
     loop-again
     same-length
     returns)

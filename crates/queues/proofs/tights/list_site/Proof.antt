@@ -10,21 +10,12 @@ use Rattle.queues.proofs.Listing.{row-fits, row-stored, listed-skip, li
 use Rattle.queues.proofs.tights.list_site.Statement.{statement}
 use Rattle.queues.proofs.tights.list_site.Tie as tie
 
-mul-if1 : tie.Need-mul-if1
-mul-if1 c = search needs
-
-shared-slice-read-if1 : tie.Need-shared-slice-read-if1
-shared-slice-read-if1 c = search needs
-
 returns : tie.Need-returns
 returns c =
     let start = c .before .before .before .before .before .before .before .before in
     let a = start .args in
     let p = start .pre in
     listed-skip (a .shares .now) (a .tights .now) (a .ends .now) (a .y) (c .if1 .taken) (p .1 .1)
-
-add-row : tie.Need-add-row
-add-row c = search needs
 
 mul-row : tie.Need-mul-row
 mul-row c =
@@ -59,15 +50,6 @@ fill-row-requires c κs =
     let fits = row-fits (a .tights .now) (a .y) (length (a .division .now)) (p .1 .0 .1) (omega arith) (p .0 .few-sites) (p .0 .few) (p .1 .0 .0 .0) in
     (p .0, (p .1 .0 .1, omega (arith, fits .0, length-set (a .tights .now) r 0), getD-set-same (a .tights .now) r 0 0 (omega (arith, fits .0))))
 
-cast-ends : tie.Need-cast-ends
-cast-ends c = search needs
-
-mul-ends : tie.Need-mul-ends
-mul-ends c = search needs
-
-slice-write-ends : tie.Need-slice-write-ends
-slice-write-ends c = search needs
-
 same-length : tie.Need-same-length
 same-length c =
     let t = c .before .before in
@@ -75,9 +57,6 @@ same-length c =
     let a = start .args in
     let p = start .pre in
     t .fill-row .kept .1 .1 .1 .1 .1 .1 .0 ∙ length-set (a .tights .now) (a .y * (length (a .division .now) + 1)) 0
-
-same-length-2 : tie.Need-same-length-2
-same-length-2 c = search needs
 
 returns-2 : tie.Need-returns-2
 returns-2 c =
@@ -98,17 +77,17 @@ pub list-site-spec : {M : Type 1} → statement M
 list-site-spec =
     tie.close
     (tie.spec
-    mul-if1
-    shared-slice-read-if1
+    (λ c. search needs)
+    (λ c. search needs)
     returns
-    add-row
+    (λ c. search needs)
     mul-row
     mul-tights
     slice-write-tights
     fill-row-requires
-    cast-ends
-    mul-ends
-    slice-write-ends
+    (λ c. search needs)
+    (λ c. search needs)
+    (λ c. search needs)
     same-length
-    same-length-2
+    (λ c. search needs)
     returns-2)

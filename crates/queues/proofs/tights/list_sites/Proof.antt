@@ -30,12 +30,6 @@ list-site-requires c κs =
     let p = start .pre in
     (p .0, ((rows-same _ (a .tights .now) (a .ends .now) (l .loop .tights) (l .loop .ends) refl (i .2) (i .3) (p .1), omega (arith, i .1)), i .4))
 
-add-y : tie.Need-add-y Inv-loop μ-loop
-add-y c = search needs
-
-loop-less : tie.Need-loop-less Inv-loop μ-loop
-loop-less c = search needs
-
 loop-again : tie.Need-loop-again Inv-loop μ-loop
 loop-again c =
     let t = c .before .before .before .before in
@@ -62,8 +56,8 @@ list-sites-spec =
     μ-loop
     loop-holds
     list-site-requires
-    add-y
-    loop-less
+    (λ c. search needs)
+    (λ c. search needs)
     loop-again
     same-length
     same-length-2

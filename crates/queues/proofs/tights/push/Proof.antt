@@ -7,32 +7,8 @@ use Rattle.queues.proofs.Listing.{row-keep, row-more, agree-set}
 use Rattle.queues.proofs.tights.push.Statement.{statement}
 use Rattle.queues.proofs.tights.push.Tie as tie
 
-tight-requires : tie.Need-tight-requires
-tight-requires c κs = search needs
-
 returns : tie.Need-returns
 returns c = (row-keep (c .before .before .before .before .before .before .pre .1 .1) (c .before .tight .ensures .1 (not-true _ (c .if1 .taken))), λ u l. refl)
-
-cast-tights : tie.Need-cast-tights
-cast-tights c = search needs
-
-add-tights : tie.Need-add-tights
-add-tights c = search needs
-
-add-tights-2 : tie.Need-add-tights-2
-add-tights-2 c = search needs
-
-mul-tights : tie.Need-mul-tights
-mul-tights c = search needs
-
-slice-write-tights : tie.Need-slice-write-tights
-slice-write-tights c = search needs
-
-add-result : tie.Need-add-result
-add-result c = search needs
-
-same-length : tie.Need-same-length
-same-length c = search needs
 
 returns-2 : tie.Need-returns-2
 returns-2 c =
@@ -44,13 +20,13 @@ pub push-spec : {M : Type 1} → statement M
 push-spec =
     tie.close
     (tie.spec
-    tight-requires
+    (λ c κs. search needs)
     returns
-    cast-tights
-    add-tights
-    add-tights-2
-    mul-tights
-    slice-write-tights
-    add-result
-    same-length
+    (λ c. search needs)
+    (λ c. search needs)
+    (λ c. search needs)
+    (λ c. search needs)
+    (λ c. search needs)
+    (λ c. search needs)
+    (λ c. search needs)
     returns-2)

@@ -23,20 +23,11 @@ abbrev μ-loop : tie.MeasureT-loop
 loop-holds : tie.Need-loop-holds Inv-loop μ-loop
 loop-holds c = (search needs, refl, first-start _, marks-none)
 
-shared-slice-read-b : tie.Need-shared-slice-read-b Inv-loop μ-loop
-shared-slice-read-b c = search needs
-
 cast-at : tie.Need-cast-at Inv-loop μ-loop
 cast-at c = omega (arith, c .shared-slice-known2 .given (c .before .before .loop .j))
 
-array-read-site-refusal : tie.Need-array-read-site-refusal Inv-loop μ-loop
-array-read-site-refusal c = search needs
-
 array-read-site-refusal-2 : tie.Need-array-read-site-refusal-2 Inv-loop μ-loop
 array-read-site-refusal-2 c = omega (arith, c .shared-slice-known2 .given (c .before .before .loop .j))
-
-site-refusal-requires : tie.Need-site-refusal-requires Inv-loop μ-loop
-site-refusal-requires c κs = search needs
 
 returns : tie.Need-returns Inv-loop μ-loop
 returns c =
@@ -47,12 +38,6 @@ returns c =
 
 array-write-seen : tie.Need-array-write-seen Inv-loop μ-loop
 array-write-seen c = omega (arith, c .before .before .shared-slice-known2 .given (c .before .before .before .before .loop .j))
-
-add-j : tie.Need-add-j Inv-loop μ-loop
-add-j c = search needs
-
-loop-less : tie.Need-loop-less Inv-loop μ-loop
-loop-less c = search needs
 
 loop-again : tie.Need-loop-again Inv-loop μ-loop
 loop-again c =
@@ -73,14 +58,14 @@ row-refusal-spec =
     Inv-loop
     μ-loop
     loop-holds
-    shared-slice-read-b
+    (λ c. search needs)
     cast-at
-    array-read-site-refusal
+    (λ c. search needs)
     array-read-site-refusal-2
-    site-refusal-requires
+    (λ c κs. search needs)
     returns
     array-write-seen
-    add-j
-    loop-less
+    (λ c. search needs)
+    (λ c. search needs)
     loop-again
     returns-2)

@@ -16,9 +16,6 @@ Inv-loop n m rows bits i₀ i = (i ≤ n) × (firstOf i (streetRefusal m rows) �
 abbrev μ-loop : tie.MeasureT-loop
 μ-loop n m rows bits i₀ i = n - i
 
-site-bits-requires : tie.Need-site-bits-requires Inv-loop μ-loop
-site-bits-requires c κs = search needs
-
 loop-holds : tie.Need-loop-holds Inv-loop μ-loop
 loop-holds c = search loop
 
@@ -29,12 +26,6 @@ street-refusal-requires c κs =
 
 returns : tie.Need-returns Inv-loop μ-loop
 returns c = search loop
-
-add-i : tie.Need-add-i Inv-loop μ-loop
-add-i c = search needs
-
-loop-less : tie.Need-loop-less Inv-loop μ-loop
-loop-less c = search needs
 
 loop-again : tie.Need-loop-again Inv-loop μ-loop
 loop-again c = search loop
@@ -48,11 +39,11 @@ rows-refusal-spec =
     (tie.spec
     Inv-loop
     μ-loop
-    site-bits-requires
+    (λ c κs. search needs)
     loop-holds
     street-refusal-requires
     returns
-    add-i
-    loop-less
+    (λ c. search needs)
+    (λ c. search needs)
     loop-again
     returns-2)

@@ -6,32 +6,11 @@ use Rattle.survey.proofs.Laws.{row-part}
 use Rattle.survey.proofs.check.street_refusal.Statement.{statement}
 use Rattle.survey.proofs.check.street_refusal.Tie as tie
 
-mul-from : tie.Need-mul-from
-mul-from c = search needs
-
-add-to : tie.Need-add-to
-add-to c = search needs
-
-sub-row : tie.Need-sub-row
-sub-row c = search needs
-
-part-row-start : tie.Need-part-row-start
-part-row-start c = search needs
-
-part-row-end : tie.Need-part-row-end
-part-row-end c = search needs
-
-is-sound-requires : tie.Need-is-sound-requires
-is-sound-requires c κs = search needs
-
 returns : tie.Need-returns
 returns c =
     let a = c .before .before .before .before .args in
     let p = c .before .before .before .before .pre in
     sym (ap (rowRefusal (a .m)) (sym (row-part (a .m) (a .rows .now) (a .i))) ∙ c .before .is-sound .ensures (a .m) (p .1 .1) (c .if1 .taken))
-
-row-refusal-requires : tie.Need-row-refusal-requires
-row-refusal-requires c κs = search needs
 
 returns-2 : tie.Need-returns-2
 returns-2 c =
@@ -42,12 +21,12 @@ pub street-refusal-spec : {M : Type 1} → statement M
 street-refusal-spec =
     tie.close
     (tie.spec
-    mul-from
-    add-to
-    sub-row
-    part-row-start
-    part-row-end
-    is-sound-requires
+    (λ c. search needs)
+    (λ c. search needs)
+    (λ c. search needs)
+    (λ c. search needs)
+    (λ c. search needs)
+    (λ c κs. search needs)
     returns
-    row-refusal-requires
+    (λ c κs. search needs)
     returns-2)

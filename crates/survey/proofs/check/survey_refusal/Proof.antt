@@ -38,14 +38,8 @@ mul-if9 c =
 returns-9 : tie.Need-returns-9
 returns-9 c = search chain depth 40
 
-scores-refusal-requires : tie.Need-scores-refusal-requires
-scores-refusal-requires c κs = search needs
-
 returns-10 : tie.Need-returns-10
 returns-10 c = search chain depth 40
-
-rows-refusal-requires : tie.Need-rows-refusal-requires
-rows-refusal-requires c κs = search needs
 
 returns-11 : tie.Need-returns-11
 returns-11 c = search chain depth 40
@@ -64,7 +58,7 @@ survey-refusal-spec =
     returns-8
     mul-if9
     returns-9
-    scores-refusal-requires
+    (λ c κs. search needs)
     returns-10
-    rows-refusal-requires
+    (λ c κs. search needs)
     returns-11)

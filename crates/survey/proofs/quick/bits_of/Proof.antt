@@ -18,9 +18,6 @@ abbrev μ-loop : tie.MeasureT-loop
 loop-holds : tie.Need-loop-holds Inv-loop μ-loop
 loop-holds c = (search needs, refl, bits-start _ _)
 
-shared-slice-read-site : tie.Need-shared-slice-read-site Inv-loop μ-loop
-shared-slice-read-site c = search needs
-
 cast-site : tie.Need-cast-site Inv-loop μ-loop
 cast-site c = omega (arith, c .shared-slice-known .given (c .before .before .loop .j))
 
@@ -29,12 +26,6 @@ mul-all c = omega (arith, c .shared-slice-known .given (c .before .before .loop 
 
 element-copy-out-all : tie.Need-element-copy-out-all Inv-loop μ-loop
 element-copy-out-all c = omega (arith, c .shared-slice-known .given (c .before .before .loop .j))
-
-add-j : tie.Need-add-j Inv-loop μ-loop
-add-j c = search needs
-
-loop-less : tie.Need-loop-less Inv-loop μ-loop
-loop-less c = search needs
 
 loop-again : tie.Need-loop-again Inv-loop μ-loop
 loop-again c =
@@ -56,11 +47,11 @@ bits-of-spec =
     Inv-loop
     μ-loop
     loop-holds
-    shared-slice-read-site
+    (λ c. search needs)
     cast-site
     mul-all
     element-copy-out-all
-    add-j
-    loop-less
+    (λ c. search needs)
+    (λ c. search needs)
     loop-again
     returns)

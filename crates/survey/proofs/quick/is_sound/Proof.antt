@@ -9,19 +9,10 @@ use Rattle.survey.proofs.Sound.{row-accepted}
 use Rattle.survey.proofs.quick.is_sound.Statement.{statement}
 use Rattle.survey.proofs.quick.is_sound.Tie as tie
 
-ranked-count-requires : tie.Need-ranked-count-requires
-ranked-count-requires c κs = search needs
-
-cast-count : tie.Need-cast-count
-cast-count c = search needs
-
 slice-aggregate-bits-of : tie.Need-slice-aggregate-bits-of
 slice-aggregate-bits-of c =
     let count = c .before .ranked-count in
     sym (ranked-size (c .before .before .before .args .row .now) (count .result) (count .ensures))
-
-bits-of-requires : tie.Need-bits-of-requires
-bits-of-requires c κs = search needs
 
 cast-result : tie.Need-cast-result
 cast-result c = omega (arith, ones-le 64 (c .bits-of .result) (omega arith))
@@ -38,9 +29,9 @@ pub is-sound-spec : {M : Type 1} → statement M
 is-sound-spec =
     tie.close
     (tie.spec
-    ranked-count-requires
-    cast-count
+    (λ c κs. search needs)
+    (λ c. search needs)
     slice-aggregate-bits-of
-    bits-of-requires
+    (λ c κs. search needs)
     cast-result
     returns)

@@ -19,26 +19,11 @@ Inv-loop row count₀ j₀ j-end count j = (j ≤ j-end) × (j-end ≡ length ro
 abbrev μ-loop : tie.MeasureT-loop
 μ-loop row count₀ j₀ j-end count j = j-end - j
 
-loop-holds : tie.Need-loop-holds Inv-loop μ-loop
-loop-holds c = search needs
-
-shared-slice-read-tally : tie.Need-shared-slice-read-tally Inv-loop μ-loop
-shared-slice-read-tally c = search needs
-
-tally-requires : tie.Need-tally-requires Inv-loop μ-loop
-tally-requires c κs = search needs
-
 add-count : tie.Need-add-count Inv-loop μ-loop
 add-count c =
     let l = c .before .before .before .loop in
     let row = c .before .before .before .before .before .args .row .now in
     omega (arith, ranked-next row (l .j) (l .count) _ (l .inv .2) (c .tally .ensures), ranked-most row (l .j + 1))
-
-add-j : tie.Need-add-j Inv-loop μ-loop
-add-j c = search needs
-
-loop-less : tie.Need-loop-less Inv-loop μ-loop
-loop-less c = search needs
 
 loop-again : tie.Need-loop-again Inv-loop μ-loop
 loop-again c =
@@ -57,11 +42,11 @@ ranked-count-spec =
     (tie.spec
     Inv-loop
     μ-loop
-    loop-holds
-    shared-slice-read-tally
-    tally-requires
+    (λ c. search needs)
+    (λ c. search needs)
+    (λ c κs. search needs)
     add-count
-    add-j
-    loop-less
+    (λ c. search needs)
+    (λ c. search needs)
     loop-again
     returns)

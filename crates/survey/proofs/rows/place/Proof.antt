@@ -7,14 +7,8 @@ use Rattle.survey.specs.Rows.{placeIn}
 use Rattle.survey.proofs.rows.place.Statement.{statement}
 use Rattle.survey.proofs.rows.place.Tie as tie
 
-ranked-requires : tie.Need-ranked-requires
-ranked-requires c κs = search needs
-
-place-in-requires : tie.Need-place-in-requires
-place-in-requires c κs = search needs
-
 returns : tie.Need-returns
 returns c = c .place-in .ensures ∙ ap (λ (list : List ℕ). placeIn list (c .before .before .before .args .site)) (c .before .ranked .ensures)
 
 pub place-spec : {M : Type 1} → statement M
-place-spec = tie.close (tie.spec ranked-requires place-in-requires returns)
+place-spec = tie.close (tie.spec (λ c κs. search needs) (λ c κs. search needs) returns)

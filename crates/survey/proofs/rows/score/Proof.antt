@@ -6,14 +6,8 @@ use Rattle.survey.specs.Rows.{scoreAt}
 use Rattle.survey.proofs.rows.score.Statement.{statement}
 use Rattle.survey.proofs.rows.score.Tie as tie
 
-place-requires : tie.Need-place-requires
-place-requires c κs = search needs
-
-score-at-requires : tie.Need-score-at-requires
-score-at-requires c κs = search needs
-
 returns : tie.Need-returns
 returns c = c .score-at .ensures ∙ ap (λ (place : ℕ). scoreAt (c .before .before .before .before .args .scores .now) place) (c .before .place .ensures)
 
 pub score-spec : {M : Type 1} → statement M
-score-spec = tie.close (tie.spec place-requires score-at-requires returns)
+score-spec = tie.close (tie.spec (λ c κs. search needs) (λ c κs. search needs) returns)
