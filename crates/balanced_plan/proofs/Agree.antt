@@ -8,13 +8,13 @@ use native.Mathlib.Nat.{le-antisymm}
 use native.Mathlib.Omega.{arith}
 use lib.ListN.{length, take}
 use Rattle.counting.specs.Lists.{has, sum}
-use Rattle.counting.specs.Choice.{unchosen}
+use Rattle.counting.specs.Greatest.{unchosen}
 use Rattle.counting.proofs.Membership.{has-head, has-tail, sum-le}
-use Rattle.counting.proofs.Choice.{greatest-le, greatest-same}
+use Rattle.counting.proofs.Greatest.{greatest-le, greatest-same}
 use Rattle.balanced_plan.specs.Rounds.{State, insert, ordered, free, lot, give, worth, choice, taken, rounds}
 use Rattle.counting.proofs.Listed.{has-take}
 use Rattle.balanced_plan.proofs.Ordered.{ordered-street}
-use Rattle.balanced_plan.proofs.Dealt.{rounds-length}
+use Rattle.balanced_plan.proofs.RoundShares.{rounds-length}
 
 -- keys that agree for a street and for those of a line put it into the line at the same place
 insert-agree : (key lock : ℕ → ℕ) (s : ℕ) (line : List ℕ) → key s ≡ lock s → ((t : ℕ) → has t line ≡ true → key t ≡ lock t)

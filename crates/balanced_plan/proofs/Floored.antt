@@ -15,23 +15,22 @@ use lib.Seq.{length-take-le}
 use borrow.Author.Tests.{leb-true, le-leb}
 use Rattle.counting.specs.Words.{one, sumOf}
 use Rattle.counting.specs.Lists.{has, distinct, count, sum}
-use Rattle.counting.specs.Sites.{Sites, Plan}
-use Rattle.counting.specs.Choice.{greatest, unchosen}
+use Rattle.counting.specs.Sites.{Sites, Choice}
+use Rattle.counting.specs.Greatest.{greatest, unchosen}
 use Rattle.counting.proofs.Refusals.{when-yes, when-none}
 use Rattle.counting.proofs.Membership.{one-more, sum-le}
-use Rattle.counting.proofs.Choice.{greatest-of}
-use Rattle.division.specs.Shares.{sharesOf, divisionTotal}
+use Rattle.counting.proofs.Greatest.{greatest-of}
+use Rattle.division.specs.Shares.{sharesOf, divisionTotal, shareSum}
 use Rattle.division.specs.Divide.{divide}
-use Rattle.division.proofs.Counts.{shareSum}
 use Rattle.division.proofs.Shared.{shares-sum}
 use Rattle.division.proofs.Best.{divide-most}
 use Rattle.balanced_plan.specs.Rounds.{ordered, free, worth}
 use Rattle.balanced_plan.specs.Floor.{depth, added, floor}
 use Rattle.counting.proofs.Listed.{has-take, take-distinct}
 use Rattle.balanced_plan.proofs.Ordered.{ordered-street, ordered-rising, ordered-sum, first-least}
-use Rattle.balanced_plan.proofs.Lots.{free-length}
-use Rattle.balanced_plan.proofs.Crowd.{crowd-site}
-use Rattle.balanced_plan.proofs.Dealt.{sitesAfter, divisionAfter, nextSite, rounds-plan, rounds-length, rounds-gain, rounds-free, rounds-in}
+use Rattle.balanced_plan.proofs.TakenStreets.{free-length}
+use Rattle.balanced_plan.proofs.Pigeonhole.{crowd-site}
+use Rattle.balanced_plan.proofs.RoundShares.{sitesAfter, divisionAfter, nextSite, rounds-plan, rounds-length, rounds-gain, rounds-free, rounds-in}
 
 -- each of n streets ranks at least t different sites of 1 to m, and gives one of its first p at least the score at the place p
 pub record Ranking (v : ℕ → ℕ → ℕ) (score : ℕ → ℕ) (n m t : ℕ) (lists : ℕ → List ℕ) : Type 0 where
@@ -58,7 +57,7 @@ module _ (v key : ℕ → ℕ → ℕ) (n m : ℕ) (falls : (a s u : ℕ) → s 
         (take-distinct p (lists s) (ranked .apart s h), λ a i. ranked .sites s h a (has-take p a (lists s) i), omega arith)
 
     -- the site that a round chooses is worth the score at p for each street of its share
-    round-least : (i : ℕ) (chosen division : List ℕ) → Plan m i chosen → length division ≡ n → (p : ℕ) → p ≤ t → (q : ℕ)
+    round-least : (i : ℕ) (chosen division : List ℕ) → Choice m i chosen → length division ≡ n → (p : ℕ) → p ≤ t → (q : ℕ)
         → ((k : ℕ) → k < q → k * (m - i) < count division 0 * (p - i))
         → q * score p ≤ worth v key q division (greatest (unchosen chosen) (worth v key q division) m)
     round-least i chosen division plan size p l zero crowd = omega arith
@@ -84,7 +83,7 @@ module _ (v key : ℕ → ℕ → ℕ) (n m : ℕ) (falls : (a s u : ℕ) → s 
           let p : ℕ = depth m k i in
           let D : List ℕ = divisionAfter v key n m q i in
           let left : n - sumOf i q ≡ count D 0 = omega (arith, rounds-free v key n m q k few whole i (omega arith)) in
-          let plan : Plan m i (sitesAfter v key n m q i) = rounds-plan v key n m q i (omega arith) in
+          let plan : Choice m i (sitesAfter v key n m q i) = rounds-plan v key n m q i (omega arith) in
           let size : length D ≡ n = rounds-length v key n m q i in
           ⊎-elim (λ o. rw (sym (when-none (score p) (leb p t) o)) (omega arith))
           (λ y. rw (sym (when-yes (score p) (leb p t) y))
@@ -103,7 +102,7 @@ module _ (v key : ℕ → ℕ → ℕ) (n m : ℕ) (falls : (a s u : ℕ) → s 
       -- nor is that of the best division in their shares
       pub best-floor : floor q score t m k ≤ divisionTotal v (divide v n (sharesOf q (sitesAfter v key n m q k) m))
       best-floor =
-          let plan : Plan m k (sitesAfter v key n m q k) = rounds-plan v key n m q k few in
+          let plan : Choice m k (sitesAfter v key n m q k) = rounds-plan v key n m q k few in
           let shares : List ℕ = sharesOf q (sitesAfter v key n m q k) m in
           let sum-is : shareSum shares ≡ n = rw (plan .size, whole) at (shares-sum q (sitesAfter v key n m q k) m (plan .sites) (plan .apart)) in
           le-trans rounds-floor (divide-most v n shares sum-is (divisionAfter v key n m q k) (rounds-in v key n m q k few whole))

@@ -1,8 +1,8 @@
-pub mod Lots
+pub mod TakenStreets
 pub mod Ordered
-pub mod Crowd
-pub mod Dealt
+pub mod Pigeonhole
+pub mod RoundShares
 pub mod Floored
-pub mod Evenly
+pub mod FloorShares
 pub mod Keys
 pub mod Agree

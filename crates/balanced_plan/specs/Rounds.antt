@@ -8,7 +8,7 @@ use lib.Dec.{ltb, eqb}
 use lib.ListN.{length, take, set, replicate}
 use Rattle.counting.specs.Words.{_orElse_}
 use Rattle.counting.specs.Lists.{at, sum}
-use Rattle.counting.specs.Choice.{greatest, unchosen}
+use Rattle.counting.specs.Greatest.{greatest, unchosen}
 
 -- a street put into a line behind all whose key is not above its own
 abbrev pub insert : (ℕ → ℕ) → ℕ → List ℕ → List ℕ

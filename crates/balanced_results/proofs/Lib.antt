@@ -1,4 +1,4 @@
-pub mod Divided
-pub mod Played
-pub mod Falling
-pub mod Surveyed
+pub mod ListShares
+pub mod SurveyRounds
+pub mod FallingLines
+pub mod SurveyFloor

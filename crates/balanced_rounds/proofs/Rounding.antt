@@ -15,15 +15,15 @@ use lib.Seq.{take-suc-set, getD-take, getD-drop, length-take-le}
 use borrow.Author.Tests.{not-true}
 use Rattle.counting.specs.Words.{_unless_}
 use Rattle.counting.specs.Lists.{at, sum, only}
-use Rattle.counting.specs.Choice.{greatest, unchosen}
-use Rattle.counting.proofs.Choice.{greatest-same}
-use Rattle.counting.proofs.Marking.{marks-none, marks-more}
+use Rattle.counting.specs.Greatest.{greatest, unchosen}
+use Rattle.counting.proofs.Greatest.{greatest-same}
+use Rattle.counting.proofs.Flagging.{flags-none, flags-more}
 use Rattle.counting.proofs.Refusals.{unless-yes, unless-none}
 use Rattle.counting.proofs.Sums.{at-past}
 use Rattle.counting.proofs.Tables.{row-within}
 use Rattle.counting.proofs.Parts.{back-is}
 use Rattle.survey.specs.Rows.{rowOf}
-use Rattle.survey.proofs.Laws.{row-part}
+use Rattle.survey.proofs.RowLoops.{row-part}
 use Rattle.free_rounds.specs.Held.{unflagged}
 use Rattle.balanced_plan.specs.Rounds.{free, lot, worth, give, choice, taken, rounds}
 use Rattle.balanced_plan.specs.Rounds as plan
@@ -80,31 +80,31 @@ all-small g list m bound e small h a =
     by-cases (decLt a (m + 1)) (λ l. omega (arith, h a (omega arith), small a)) (λ o. omega (arith, at-past list a (omega arith)))
 
 -- the worths of all sites are small
-pub worths-small : (v : ℕ → ℕ → ℕ) (n m q : ℕ) (orders division worths : List ℕ) (marks : List Bool) → length worths ≡ m + 1 → ((s a : ℕ) → v s a ≤ 99000)
-    → q ≤ 400 → ((a : ℕ) → a ≤ m → at worths a ≡ sum (λ s. v s a) (picked (rowOf n orders a) q division) unless getD marks a false)
+pub worths-small : (v : ℕ → ℕ → ℕ) (n m q : ℕ) (orders division worths : List ℕ) (flags : List Bool) → length worths ≡ m + 1 → ((s a : ℕ) → v s a ≤ 99000)
+    → q ≤ 400 → ((a : ℕ) → a ≤ m → at worths a ≡ sum (λ s. v s a) (picked (rowOf n orders a) q division) unless getD flags a false)
     → (a : ℕ) → at worths a ≤ 39600000
-worths-small v n m q orders division worths marks e low few =
-    all-small (λ a. sum (λ s. v s a) (picked (rowOf n orders a) q division) unless getD marks a false) worths m 39600000 e
-    (λ a. unless-small _ 39600000 (getD marks a false) (worth-small (λ s. v s a) (rowOf n orders a) division q (λ s. low s a) few))
+worths-small v n m q orders division worths flags e low few =
+    all-small (λ a. sum (λ s. v s a) (picked (rowOf n orders a) q division) unless getD flags a false) worths m 39600000 e
+    (λ a. unless-small _ 39600000 (getD flags a false) (worth-small (λ s. v s a) (rowOf n orders a) division q (λ s. low s a) few))
 
 -- ---- the choice
 -- the flags' choice by the worths of all lines is the choice by the definition's worths
-pub chosen-worth : (v key : ℕ → ℕ → ℕ) (n m q : ℕ) (orders division worths : List ℕ) (marks : List Bool) → Orders key n m orders → length division ≡ n
-    → ((a : ℕ) → a ≤ m → at worths a ≡ sum (λ s. v s a) (picked (rowOf n orders a) q division) unless getD marks a false)
-    → greatest (unflagged marks) (at worths) m ≡ greatest (unflagged marks) (worth v key q division) m
-chosen-worth v key n m q orders division worths marks o e filled =
-    greatest-same (unflagged marks) (unflagged marks) (at worths) (worth v key q division) m (λ a l. refl)
+pub chosen-worth : (v key : ℕ → ℕ → ℕ) (n m q : ℕ) (orders division worths : List ℕ) (flags : List Bool) → Orders key n m orders → length division ≡ n
+    → ((a : ℕ) → a ≤ m → at worths a ≡ sum (λ s. v s a) (picked (rowOf n orders a) q division) unless getD flags a false)
+    → greatest (unflagged flags) (at worths) m ≡ greatest (unflagged flags) (worth v key q division) m
+chosen-worth v key n m q orders division worths flags o e filled =
+    greatest-same (unflagged flags) (unflagged flags) (at worths) (worth v key q division) m (λ a l. refl)
     (λ a l y.
-    let open-site : getD marks a false ≡ false = not-true (getD marks a false) (and-eq-true-iff (ltb 0 a) (not (getD marks a false)) .0 y .1) in
-    filled a l ∙ sym (unless-yes (sum (λ s. v s a) (picked (rowOf n orders a) q division)) (getD marks a false) open-site)
+    let open-site : getD flags a false ≡ false = not-true (getD flags a false) (and-eq-true-iff (ltb 0 a) (not (getD flags a false)) .0 y .1) in
+    filled a l ∙ sym (unless-yes (sum (λ s. v s a) (picked (rowOf n orders a) q division)) (getD flags a false) open-site)
     ∙ ap (sum (λ s. v s a)) (sym (lot-line key n m orders o q division a e l)))
 
 -- and the choice by the flags is that by the chosen sites
 pub choice-flagged : (v key : ℕ → ℕ → ℕ) (n m q : ℕ) (state : State) → Held state → m ≤ 64
-    → greatest (unflagged (state .marks)) (worth v key q (take n (state .division))) m ≡ choice v key m q (stateOf n state)
+    → greatest (unflagged (state .flags)) (worth v key q (take n (state .division))) m ≡ choice v key m q (stateOf n state)
 choice-flagged v key n m q state h few =
-    greatest-same (unflagged (state .marks)) (unchosen (take (state .count) (state .chosen))) _ _ m
-    (λ a l. ap (λ (t : Bool). ltb 0 a && not t) (h .marks .right a (omega arith))) (λ a l y. refl)
+    greatest-same (unflagged (state .flags)) (unchosen (take (state .count) (state .chosen))) _ _ m
+    (λ a l. ap (λ (t : Bool). ltb 0 a && not t) (h .flags .right a (omega arith))) (λ a l y. refl)
 
 -- ---- the state
 -- the engine's state once a site has taken its streets
@@ -113,7 +113,7 @@ stateWith state site division =
     record {
       chosen = set (state .chosen) (state .count) site;
       count = state .count + 1;
-      marks = set (state .marks) site true;
+      flags = set (state .flags) site true;
       division = division;
     }
 
@@ -131,7 +131,7 @@ module _ (n m q : ℕ) (state : State) (site : ℕ) (new : List ℕ) (h : Held s
   held-more = record {
     chosen-size = simp length-set (h .chosen-size);
     division-size = omega (arith, length-append new (drop n (state .division)), length-drop n (state .division), h .division-size, whole);
-    marks = rw sites-more (marks-more (state .marks) (take (state .count) (state .chosen)) site (omega arith) (h .marks));
+    flags = rw sites-more (flags-more (state .flags) (take (state .count) (state .chosen)) site (omega arith) (h .flags));
   }
 
   -- and stands for the definition's state
@@ -146,7 +146,7 @@ module _ (n m q : ℕ) (state : State) (site : ℕ) (new : List ℕ) (h : Held s
 
 -- the empty state holds nothing
 pub held-none : Held emptyState
-held-none = record { chosen-size = length-replicate {A = ℕ} 64 0; division-size = length-replicate {A = ℕ} 400 0; marks = marks-none }
+held-none = record { chosen-size = length-replicate {A = ℕ} 64 0; division-size = length-replicate {A = ℕ} 400 0; flags = flags-none }
 
 -- nor does a state that is the empty one
 pub start-holds : (state : State) → state ≡ emptyState → (state .count ≡ 0) × Held state

@@ -7,7 +7,7 @@ use mathlib.Core.List.{List}
 use Prim.Native.Nat.{ℕ, _+_, _*_, _≤_, _<_}
 use lib.ListN.{length, take, replicate}
 use Rattle.counting.specs.Lists.{at, only}
-use Rattle.counting.specs.Marks.{Marks}
+use Rattle.counting.specs.Flags.{Flags}
 use Rattle.survey.specs.Rows.{rowOf}
 use Rattle.balanced_plan.specs.Rounds as plan
 use Rattle.balanced_rounds.specs.declared.State.{State}
@@ -49,10 +49,10 @@ stateOf n state = record { chosen = take (state .count) (state .chosen); divisio
 
 -- the state before the first round
 abbrev pub emptyState : State
-emptyState = record { chosen = replicate 64 0; count = 0; marks = replicate 256 false; division = replicate 400 0 }
+emptyState = record { chosen = replicate 64 0; count = 0; flags = replicate 256 false; division = replicate 400 0 }
 
 -- the state's arrays have their lengths, and its flags are those of its sites
 pub record Held (state : State) : Type 0 where
   pub chosen-size : length (state .chosen) ≡ 64
   pub division-size : length (state .division) ≡ 400
-  pub marks : Marks (state .marks) (take (state .count) (state .chosen))
+  pub flags : Flags (state .flags) (take (state .count) (state .chosen))

@@ -5,7 +5,7 @@ ghost use Prim.Native.Nat.{ℕ, _+_, _≤_, _<_};
 ghost use lib.ListN.{length, getD};
 ghost use Rattle.counting.specs.Words.{_unless_};
 ghost use Rattle.counting.specs.Lists.{at, sum};
-ghost use Rattle.counting.specs.Choice.{greatest};
+ghost use Rattle.counting.specs.Greatest.{greatest};
 ghost use Rattle.survey.specs.Rows.{rowOf};
 ghost use Rattle.values.specs.Table.{Table, valueIn};
 ghost use Rattle.free_rounds.specs.Held.{unflagged};
@@ -18,7 +18,7 @@ mod walks;
 pub struct State {
     pub chosen: [u8; 64],
     pub count: usize,
-    pub marks: [bool; 256],
+    pub flags: [bool; 256],
     pub division: [u8; 400],
 }
 
@@ -27,16 +27,16 @@ fn worth_of(
     values: &[u32],
     orders: &[u16],
     division: &[u8],
-    marks: &[bool],
+    flags: &[bool],
     m: usize,
     q: usize,
     a: usize,
 ) -> u32
     requires { ⌜ Table (length (now division)) m (now values) × Lines (length (now division)) m (now orders) × Falling (valueIn (now values) m) (length (now division)) m (now orders) ⌝ }
-    requires { ⌜ (length (now marks) ≡ 256) × (a ≤ m) × (q ≤ 400) ⌝ }
-    ensures { λ r. ⌜ r ≡ sum (λ s. valueIn (now (values .entry)) m s a) (picked (rowOf (length (now (division .entry))) (now (orders .entry)) a) q (now (division .entry))) unless getD (now (marks .entry)) a false ⌝ }
+    requires { ⌜ (length (now flags) ≡ 256) × (a ≤ m) × (q ≤ 400) ⌝ }
+    ensures { λ r. ⌜ r ≡ sum (λ s. valueIn (now (values .entry)) m s a) (picked (rowOf (length (now (division .entry))) (now (orders .entry)) a) q (now (division .entry))) unless getD (now (flags .entry)) a false ⌝ }
 {
-    if marks[a] {
+    if flags[a] {
         return 0;
     }
     let n = division.len();
@@ -50,17 +50,17 @@ fn fill_worths(
     values: &[u32],
     orders: &[u16],
     division: &[u8],
-    marks: &[bool],
+    flags: &[bool],
     m: usize,
     q: usize,
     worths: &mut [u32],
 )
     requires { ⌜ Table (length (now division)) m (now values) × Lines (length (now division)) m (now orders) × Falling (valueIn (now values) m) (length (now division)) m (now orders) ⌝ }
-    requires { ⌜ (length (now marks) ≡ 256) × (q ≤ 400) × (length (now worths) ≡ m + 1) ⌝ }
-    ensures { λ _. ⌜ ((a : ℕ) → a ≤ m → at (now (worths .exit)) a ≡ sum (λ s. valueIn (now (values .entry)) m s a) (picked (rowOf (length (now (division .entry))) (now (orders .entry)) a) q (now (division .entry))) unless getD (now (marks .entry)) a false) ⌝ }
+    requires { ⌜ (length (now flags) ≡ 256) × (q ≤ 400) × (length (now worths) ≡ m + 1) ⌝ }
+    ensures { λ _. ⌜ ((a : ℕ) → a ≤ m → at (now (worths .exit)) a ≡ sum (λ s. valueIn (now (values .entry)) m s a) (picked (rowOf (length (now (division .entry))) (now (orders .entry)) a) q (now (division .entry))) unless getD (now (flags .entry)) a false) ⌝ }
 {
     for a in 0..worths.len() {
-        worths[a] = worth_of(values, orders, division, marks, m, q, a);
+        worths[a] = worth_of(values, orders, division, flags, m, q, a);
     }
 }
 
@@ -69,19 +69,19 @@ fn choose(
     values: &[u32],
     orders: &[u16],
     division: &[u8],
-    marks: &[bool],
+    flags: &[bool],
     m: usize,
     q: usize,
 ) -> usize
     requires { ⌜ Table (length (now division)) m (now values) × Lines (length (now division)) m (now orders) × Falling (valueIn (now values) m) (length (now division)) m (now orders) ⌝ }
-    requires { ⌜ (length (now marks) ≡ 256) × (q ≤ 400) ⌝ }
+    requires { ⌜ (length (now flags) ≡ 256) × (q ≤ 400) ⌝ }
     ensures site { λ r. ⌜ r ≤ m ⌝ }
-    ensures choice { λ r. ⌜ ((key : ℕ → ℕ → ℕ) → Orders key (length (now (division .entry))) m (now (orders .entry)) → r ≡ greatest (unflagged (now (marks .entry))) (worth (valueIn (now (values .entry)) m) key q (now (division .entry))) m) ⌝ }
+    ensures choice { λ r. ⌜ ((key : ℕ → ℕ → ℕ) → Orders key (length (now (division .entry))) m (now (orders .entry)) → r ≡ greatest (unflagged (now (flags .entry))) (worth (valueIn (now (values .entry)) m) key q (now (division .entry))) m) ⌝ }
 {
     let width = m + 1;
     let mut worths = [0u32; 65];
-    fill_worths(values, orders, division, marks, m, q, &mut worths[..width]);
-    free_rounds::pick::best_site(&worths[..width], marks, m)
+    fill_worths(values, orders, division, flags, m, q, &mut worths[..width]);
+    free_rounds::pick::best_site(&worths[..width], flags, m)
 }
 
 impl State {
@@ -92,7 +92,7 @@ impl State {
         Self {
             chosen: [0u8; 64],
             count: 0,
-            marks: [false; 256],
+            flags: [false; 256],
             division: [0u8; 400],
         }
     }
@@ -113,7 +113,7 @@ impl State {
         walks::give_lot(&orders[from..to], &before[..n], &mut division[..n], q, site);
         self.chosen[at] = site;
         self.count = at + 1;
-        self.marks[flag] = true;
+        self.flags[flag] = true;
         self.division = division;
         self
     }
@@ -126,8 +126,8 @@ impl State {
         ensures state { λ r. ⌜ ((key : ℕ → ℕ → ℕ) → Orders key n m (now (orders .entry)) → stateOf n r ≡ taken key q (stateOf n self) (choice (valueIn (now (values .entry)) m) key m q (stateOf n self))) ⌝ }
     {
         let division = self.division;
-        let marks = self.marks;
-        let site = choose(values, orders, &division[..n], &marks, m, q);
+        let flags = self.flags;
+        let site = choose(values, orders, &division[..n], &flags, m, q);
         self = self.taking(orders, n, m, q, site as u8);
         self
     }

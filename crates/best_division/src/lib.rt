@@ -5,14 +5,14 @@ ghost use mathlib.Core.Path.{_≡_};
 ghost use Prim.Native.Nat.{ℕ, _≤_};
 ghost use lib.ListN.{length};
 ghost use Rattle.counting.specs.Lists.{at, cell};
+ghost use Rattle.division.specs.Prices.{Priced};
 ghost use Rattle.division.specs.Shares.{InShares, divisionTotal};
 ghost use Rattle.division.specs.Divide.{divide};
-ghost use Rattle.division.specs.Town.{Town, tail};
-ghost use Rattle.division.proofs.Dual.{Priced};
+ghost use Rattle.division.specs.Problem.{Problem, tail};
 
 // The improving loop with buffers of its own; prices that prove the division best are left in `low`.
 fn improve(values: &[u32], shares: &[u16], division: &mut [u8], low: &mut [u32]) -> u32
-    requires { ⌜ Town (now values) (now shares) (length (now division)) × InShares (now division) (tail (now shares)) × (length (now low) ≡ length (now shares)) ⌝ }
+    requires { ⌜ Problem (now values) (now shares) (length (now division)) × InShares (now division) (tail (now shares)) × (length (now low) ≡ length (now shares)) ⌝ }
     ensures total { λ r. ⌜ r ≡ divisionTotal (cell (now (values .entry)) (length (now (shares .entry)))) (now (division .exit)) ⌝ }
     ensures shares { λ _. ⌜ InShares (now (division .exit)) (tail (now (shares .entry))) ⌝ }
     ensures best { λ _. ⌜ ((a : ℕ) → at (now (low .exit)) a ≤ 1000000000) × Priced (cell (now (values .entry)) (length (now (shares .entry)))) (at (now (low .exit))) (tail (now (shares .entry))) (now (division .exit)) ⌝ }
@@ -42,7 +42,7 @@ fn improve(values: &[u32], shares: &[u16], division: &mut [u8], low: &mut [u32])
 
 // The tie pass with buffers of its own.
 fn settle(values: &[u32], shares: &[u16], prices: &[u32], division: &mut [u8])
-    requires { ⌜ Town (now values) (now shares) (length (now division)) ⌝ }
+    requires { ⌜ Problem (now values) (now shares) (length (now division)) ⌝ }
     requires { ⌜ InShares (now division) (tail (now shares)) ⌝ }
     requires { ⌜ (length (now prices) ≡ length (now shares)) × ((a : ℕ) → at (now prices) a ≤ 1000000000) ⌝ }
     requires { ⌜ Priced (cell (now values) (length (now shares))) (at (now prices)) (tail (now shares)) (now division) ⌝ }
@@ -51,7 +51,7 @@ fn settle(values: &[u32], shares: &[u16], prices: &[u32], division: &mut [u8])
     let mut streets = [0u16; 65];
     let mut nexts = [0u8; 65];
     let mut sites = [0u8; 65];
-    let mut marks = [false; 65];
+    let mut flags = [false; 65];
     ties::settle(
         values,
         shares,
@@ -60,13 +60,13 @@ fn settle(values: &[u32], shares: &[u16], prices: &[u32], division: &mut [u8])
         &mut streets,
         &mut nexts,
         &mut sites,
-        &mut marks,
+        &mut flags,
     );
 }
 
 // Any division in the shares becomes the best one, and its total is returned.
 pub fn best(values: &[u32], shares: &[u16], division: &mut [u8]) -> u32
-    requires { ⌜ Town (now values) (now shares) (length (now division)) × InShares (now division) (tail (now shares)) ⌝ }
+    requires { ⌜ Problem (now values) (now shares) (length (now division)) × InShares (now division) (tail (now shares)) ⌝ }
     ensures total { λ r. ⌜ r ≡ divisionTotal (cell (now (values .entry)) (length (now (shares .entry)))) (divide (cell (now (values .entry)) (length (now (shares .entry)))) (length (now (division .entry))) (tail (now (shares .entry)))) ⌝ }
     ensures division { λ _. ⌜ now (division .exit) ≡ divide (cell (now (values .entry)) (length (now (shares .entry)))) (length (now (division .entry))) (tail (now (shares .entry))) ⌝ }
 {

@@ -9,7 +9,7 @@ use native.Mathlib.Omega.{arith}
 use lib.ListN.{length}
 use Rattle.counting.specs.Lists.{at, cell}
 use Rattle.division.specs.Shares.{InShares, divisionTotal}
-use Rattle.division.specs.Town.{Town, tail}
+use Rattle.division.specs.Problem.{Problem, tail}
 use Rattle.division.proofs.Counts.{divisionTotal-bound}
 use Rattle.division.proofs.Towns.{sited}
 use Rattle.pairs.specs.Moves.{Land, Tables, Mended}
@@ -20,12 +20,12 @@ use Rattle.rings.proofs.Moved.{moved-length, moved-total, moved-alike}
 use Rattle.chains.proofs.Search.{climb, raised-by}
 
 -- each street's site is below the width
-pub inside : (values shares division : List ℕ) → Town values shares (length division) → InShares division (tail shares)
+pub inside : (values shares division : List ℕ) → Problem values shares (length division) → InShares division (tail shares)
     → (s : ℕ) → s < length division → at division s < length shares
 inside values shares division town shared s l = sited shares division (town .nobody) shared s l .0
 
 -- the values fit a division in the shares
-pub land : (values shares division : List ℕ) (n : ℕ) → n ≡ length division → Town values shares n → Land values division (length shares)
+pub land : (values shares division : List ℕ) (n : ℕ) → n ≡ length division → Problem values shares n → Land values division (length shares)
 land values shares division n e town = record {
   size = rw e at (town .size);
   small = town .small;

@@ -7,7 +7,7 @@ use native.Mathlib.Omega.{arith}
 use lib.ListN.{length}
 use Rattle.counting.specs.Lists.{at, cell}
 use Rattle.division.specs.Shares.{InShares, divisionTotal}
-use Rattle.division.specs.Town.{Town, tail}
+use Rattle.division.specs.Problem.{Problem, tail}
 use Rattle.pairs.specs.Moves.{Tables}
 use Rattle.rings.specs.Rings.{moved}
 use Rattle.chains.specs.Chains.{Buffers, Closed}
@@ -16,7 +16,7 @@ use Rattle.chains.proofs.Gains.{total-bound}
 
 -- a division in the shares with its best moves, and buffers for the search
 pub record Improving (values shares division low prices vias pairs gains streets sites : List ℕ) : Type 0 where
-  pub town : Town values shares (length division)
+  pub town : Problem values shares (length division)
   pub shared : InShares division (tail shares)
   pub tables : Tables values division (length shares) pairs gains
   pub buffers : Buffers (length shares) low prices vias pairs gains streets sites
@@ -73,7 +73,7 @@ nearer values A D E w n small e long gain =
     rw (← e) (omega arith)
 
 -- with the best moves made, the loop can begin
-pub started : (values shares D low prices vias pairs gains streets sites pairs′ gains′ : List ℕ) → Town values shares (length D)
+pub started : (values shares D low prices vias pairs gains streets sites pairs′ gains′ : List ℕ) → Problem values shares (length D)
     → InShares D (tail shares) → Buffers (length shares) low prices vias pairs gains streets sites → Tables values D (length shares) pairs′ gains′
     → Improving values shares D low prices vias pairs′ gains′ streets sites
 started values shares D low prices vias pairs gains streets sites pairs′ gains′ town shared f tables = record {

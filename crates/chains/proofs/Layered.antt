@@ -10,7 +10,7 @@ use Rattle.counting.specs.Lists.{at, cell}
 use Rattle.counting.proofs.Tables.{row-within}
 use Rattle.counting.proofs.Parts.{part, put, part-length, part-at, put-length, put-before, put-in}
 use Rattle.division.specs.Shares.{InShares}
-use Rattle.division.specs.Town.{Town, tail}
+use Rattle.division.specs.Problem.{Problem, tail}
 use Rattle.pairs.specs.Moves.{Tables}
 use Rattle.layers.specs.Layers.{Ground, Fitting, Layer}
 use Rattle.chains.specs.Chains.{Searched, Raised}
@@ -27,7 +27,7 @@ pub same-width : (values division : List ℕ) (w x : ℕ) (pairs gains : List �
     → Tables values division x pairs gains
 same-width values division w x pairs gains e h = rw e h
 
-module _ (values shares division : List ℕ) (town : Town values shares (length division)) (shared : InShares division (tail shares))
+module _ (values shares division : List ℕ) (town : Problem values shares (length division)) (shared : InShares division (tail shares))
     (k : ℕ) (less : k < length shares) (low prices vias : List ℕ) (low-fits : length low ≡ length shares)
     (h : Searched values shares division (length shares) k low prices vias) where
   -- the last prices are what a layer can be made of

@@ -11,9 +11,9 @@ use lib.ListN.{length}
 use Rattle.counting.specs.Lists.{at, cell}
 use Rattle.counting.proofs.Sums.{at-past, at-within}
 use Rattle.counting.proofs.Tables.{in-rows}
+use Rattle.division.specs.Prices.{Priced}
 use Rattle.division.specs.Shares.{share}
-use Rattle.division.specs.Town.{tail}
-use Rattle.division.proofs.Dual.{Priced}
+use Rattle.division.specs.Problem.{tail}
 use Rattle.division.proofs.Towns.{share-tail}
 use Rattle.layers.specs.Layers.{Site, Layer}
 use Rattle.chains.specs.Chains.{Searched, Raised}

@@ -5,9 +5,9 @@ ghost use mathlib.Core.Path.{_≡_};
 ghost use Prim.Native.Nat.{ℕ, _+_, _*_, _≤_, _<_};
 ghost use lib.ListN.{length};
 ghost use Rattle.counting.specs.Lists.{at, cell};
+ghost use Rattle.division.specs.Prices.{Priced};
 ghost use Rattle.division.specs.Shares.{InShares, divisionTotal};
-ghost use Rattle.division.specs.Town.{Town, tail};
-ghost use Rattle.division.proofs.Dual.{Priced};
+ghost use Rattle.division.specs.Problem.{Problem, tail};
 ghost use Rattle.pairs.specs.Moves.{Land, Tables};
 ghost use Rattle.rings.specs.Rings.{moved, Moves};
 ghost use Rattle.chains.specs.Chains.{Buffers, Searched, Raised, Closed};
@@ -26,7 +26,7 @@ fn deepen(
     pairs: &[u16],
     gains: &[u32],
 ) -> usize
-    requires { ⌜ Town (now values) (now shares) (length (now division)) × InShares (now division) (tail (now shares)) ⌝ }
+    requires { ⌜ Problem (now values) (now shares) (length (now division)) × InShares (now division) (tail (now shares)) ⌝ }
     requires { ⌜ (k < length (now shares)) × (length (now low) ≡ length (now shares)) × (length (now prices) ≡ (length (now shares) + 1) * length (now shares)) × (length (now vias) ≡ length (now shares) * length (now shares)) ⌝ }
     requires { ⌜ Searched (now values) (now shares) (now division) (length (now shares)) k (now low) (now prices) (now vias) ⌝ }
     requires { ⌜ Tables (now values) (now division) (length (now shares)) (now pairs) (now gains) ⌝ }
@@ -88,7 +88,7 @@ pub fn improve(
     streets: &mut [u16],
     sites: &mut [u8],
 ) -> u32
-    requires { ⌜ Town (now values) (now shares) (length (now division)) × InShares (now division) (tail (now shares)) ⌝ }
+    requires { ⌜ Problem (now values) (now shares) (length (now division)) × InShares (now division) (tail (now shares)) ⌝ }
     requires { ⌜ Buffers (length (now shares)) (now low) (now prices) (now vias) (now pairs) (now gains) (now streets) (now sites) ⌝ }
     ensures total { λ r. ⌜ r ≡ divisionTotal (cell (now (values .entry)) (length (now (shares .entry)))) (now (division .exit)) ⌝ }
     ensures shares { λ _. ⌜ InShares (now (division .exit)) (tail (now (shares .entry))) ⌝ }

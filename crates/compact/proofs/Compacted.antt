@@ -10,16 +10,16 @@ use lib.Seq.{length-take-le}
 use Rattle.counting.specs.Lists.{at, cell}
 use Rattle.counting.proofs.Sums.{at-within}
 use Rattle.counting.proofs.Parts.{front-length, front-blank}
-use Rattle.division.specs.Shares.{share, InShares, divisionTotal}
+use Rattle.division.specs.Shares.{share, InShares, divisionTotal, shareSum}
 use Rattle.division.specs.Divide.{divide}
-use Rattle.division.specs.Town.{Town, tail}
-use Rattle.division.proofs.Counts.{shareSum, divisionTotal-same, in-length}
+use Rattle.division.specs.Problem.{Problem, tail}
+use Rattle.division.proofs.Counts.{divisionTotal-same, in-length}
 use Rattle.division.proofs.Best.{divide-in, divide-length, divide-same}
 use Rattle.division.proofs.Towns.{share-tail, sited}
 use Rattle.division.proofs.Renumbered.{Onto, total-map, in-map, sum-map, divide-map}
 use Rattle.compact.specs.Numbered.{Numbered, Columns}
 
-module _ (values shares : List ℕ) (n : ℕ) (town : Town values shares n) (sites numbers few : List ℕ)
+module _ (values shares : List ℕ) (n : ℕ) (town : Problem values shares n) (sites numbers few : List ℕ)
     (h : Numbered shares sites numbers few (length shares) (length few)) where
   -- number 0 has no share
   no-share : at few 0 ≡ 0
@@ -44,7 +44,7 @@ module _ (values shares : List ℕ) (n : ℕ) (town : Town values shares n) (sit
   numbered x l = at-within few x (omega (arith, share-tail few no-share x))
 
   -- the small table is a town
-  pub few-town : (table : List ℕ) → length table ≡ n * length few → Columns values (length shares) sites table (length few) n → Town table few n
+  pub few-town : (table : List ℕ) → length table ≡ n * length few → Columns values (length shares) sites table (length few) n → Problem table few n
   few-town table size columns =
       record {
         size = size;

@@ -6,7 +6,7 @@ ghost use lib.ListN.{length};
 ghost use Rattle.counting.specs.Lists.{at, cell};
 ghost use Rattle.division.specs.Shares.{InShares, divisionTotal};
 ghost use Rattle.division.specs.Divide.{divide};
-ghost use Rattle.division.specs.Town.{Town, tail};
+ghost use Rattle.division.specs.Problem.{Problem, tail};
 ghost use Rattle.compact.specs.Numbered.{Numbered};
 
 mod columns;
@@ -22,7 +22,7 @@ fn best_of_few(
     table: &mut [u32],
     division: &mut [u8],
 ) -> u32
-    requires { ⌜ Town (now values) (now shares) (length (now division)) × InShares (now division) (tail (now shares)) ⌝ }
+    requires { ⌜ Problem (now values) (now shares) (length (now division)) × InShares (now division) (tail (now shares)) ⌝ }
     requires { ⌜ Numbered (now shares) (now sites) (now numbers) (now few) (length (now shares)) (length (now few)) ⌝ }
     requires { ⌜ (length (now shares) ≤ length (now sites)) × (length (now shares) ≤ length (now numbers)) ⌝ }
     requires { ⌜ (length (now table) ≡ length (now division) * length (now few)) × ((i : ℕ) → at (now table) i ≡ 0) ⌝ }
@@ -39,7 +39,7 @@ fn best_of_few(
 
 // Any division in the shares becomes the best one, and its total is returned.
 pub fn best(values: &[u32], shares: &[u16], division: &mut [u8]) -> u32
-    requires { ⌜ Town (now values) (now shares) (length (now division)) × InShares (now division) (tail (now shares)) ⌝ }
+    requires { ⌜ Problem (now values) (now shares) (length (now division)) × InShares (now division) (tail (now shares)) ⌝ }
     ensures total { λ r. ⌜ r ≡ divisionTotal (cell (now (values .entry)) (length (now (shares .entry)))) (divide (cell (now (values .entry)) (length (now (shares .entry)))) (length (now (division .entry))) (tail (now (shares .entry)))) ⌝ }
     ensures division { λ _. ⌜ now (division .exit) ≡ divide (cell (now (values .entry)) (length (now (shares .entry)))) (length (now (division .entry))) (tail (now (shares .entry))) ⌝ }
 {

@@ -1,10 +1,10 @@
 pub mod Refusals
 pub mod Membership
-pub mod Choice
+pub mod Greatest
 pub mod Sums
-pub mod Marking
+pub mod Flagging
 pub mod Filling
 pub mod Parts
 pub mod Tables
 pub mod Listed
-pub mod Plans
+pub mod Choices

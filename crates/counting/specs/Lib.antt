@@ -1,6 +1,6 @@
 pub mod Words
 pub mod Lists
-pub mod Choice
+pub mod Greatest
 pub mod Buffers
 pub mod Sites
-pub mod Marks
+pub mod Flags

@@ -16,7 +16,7 @@ abbrev pub Sub : List ℕ → List ℕ → Type 0
 Sub S T = (a : ℕ) → has a S ≡ true → has a T ≡ true
 
 -- a list of i different sites of 1 to m
-pub record Plan (m i : ℕ) (S : List ℕ) : Type 0 where
+pub record Choice (m i : ℕ) (S : List ℕ) : Type 0 where
   pub sites : Sites m S
   pub apart : distinct S ≡ true
   pub size : length S ≡ i

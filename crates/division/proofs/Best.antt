@@ -11,11 +11,11 @@ use native.Mathlib.Omega.{arith}
 use lib.ListN.{length}
 use borrow.Author.Tests.{ltb-true, lt-ltb}
 use Rattle.counting.specs.Lists.{at, count}
-use Rattle.counting.specs.Choice.{greatest}
-use Rattle.counting.proofs.Choice.{Chosen, greatest-of}
-use Rattle.division.specs.Shares.{share, less, InShares, divisionTotal}
+use Rattle.counting.specs.Greatest.{greatest}
+use Rattle.counting.proofs.Greatest.{Chosen, greatest-of}
+use Rattle.division.specs.Shares.{share, less, InShares, divisionTotal, shareSum}
 use Rattle.division.specs.Divide.{left, reach, divide, First}
-use Rattle.division.proofs.Counts.{by-order, shareSum, dot-less, share-fits, share-none, share-some, divisionTotal-same}
+use Rattle.division.proofs.Counts.{by-order, dot-less, share-fits, share-none, share-some, divisionTotal-same}
 use Rattle.division.proofs.Counts.{in-head, in-tail, in-cons, in-length, has-share}
 
 -- one division beats another: it totals more, or as much and is first in dictionary order

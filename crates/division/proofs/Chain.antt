@@ -9,6 +9,7 @@ use lib.Dec.{eqb}
 use lib.ListN.{length, set}
 use Rattle.counting.specs.Words.{one}
 use Rattle.counting.specs.Lists.{at, count}
+use Rattle.division.specs.Prices.{Over}
 use Rattle.division.specs.Shares.{InShares, divisionTotal}
 use Rattle.division.proofs.Counts.{count-total}
 
@@ -22,10 +23,6 @@ divisionTotal-set v (a ∷ D) (suc s) b l = omega (arith, divisionTotal-set (λ 
 -- its site has one street less, and b one more
 pub count-set : (D : List ℕ) (s b x : ℕ) → s < length D → count (set D s b) x + one (eqb (at D s) x) ≡ count D x + one (eqb b x)
 count-set D s b x l = simp count-total (divisionTotal-set (λ s a. one (eqb a x)) D s b l)
-
--- on the way from D to E: the site y has a street too many, and a has one too few
-abbrev pub Over : List ℕ → List ℕ → ℕ → ℕ → Type 0
-Over D E a y = (z : ℕ) → count E z + one (eqb a z) ≡ count D z + one (eqb y z)
 
 -- no street is too many where a is y: E is in the shares of D
 pub over-done : (D E : List ℕ) (a : ℕ) → Over D E a a → (c : List ℕ) → InShares D c → InShares E c

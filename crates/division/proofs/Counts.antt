@@ -15,20 +15,11 @@ use Rattle.counting.specs.Words.{one, sumOf}
 use Rattle.counting.specs.Lists.{at, count}
 use Rattle.counting.specs.Buffers.{joined, listOf}
 use Rattle.counting.proofs.Sums.{listOf-length}
-use Rattle.division.specs.Shares.{share, less, InShares, divisionTotal}
+use Rattle.division.specs.Shares.{share, less, InShares, divisionTotal, dot, shareSum}
 
 -- one of two numbers is less, or they are the same
 pub by-order : {P : Type 0} (a b : ℕ) → (a < b → P) → (a ≡ b → P) → (b < a → P) → P
 by-order a b less same more = by-cases (decLt a b) less (λ n. ⊎-elim (λ e. same (sym e)) more (eq-or-lt-of-le (omega arith)))
-
--- over the sites, the sum of share times price
-abbrev pub dot : List ℕ → (ℕ → ℕ) → ℕ
-dot [] d = 0
-dot (x ∷ c) d = x * d 1 + dot c (λ a. d (suc a))
-
--- the sum of the shares: how many streets they are for
-abbrev pub shareSum : List ℕ → ℕ
-shareSum c = dot c (λ a. 1)
 
 -- ---- one street less
 -- a number of a list less one is one less, and the others stay

@@ -13,20 +13,13 @@ use lib.ListN.{length}
 use Rattle.counting.specs.Words.{one}
 use Rattle.counting.specs.Lists.{at}
 use Rattle.counting.proofs.Membership.{one-more}
+use Rattle.division.specs.Prices.{Priced, Tight}
 use Rattle.division.specs.Shares.{share, InShares, divisionTotal}
 use Rattle.division.proofs.Counts.{by-order, cost, in-length, has-share, divisionTotal-even}
-
--- the prices d hold for a division in the shares c: no street gains, after prices, by a move to a site that has a share
-abbrev pub Priced : (ℕ → ℕ → ℕ) → (ℕ → ℕ) → List ℕ → List ℕ → Type 0
-Priced v d c D = (t : ℕ) → t < length D → (b : ℕ) → 0 < share c b → d (at D t) + v t b ≤ d b + v t (at D t)
 
 -- no street gains, after prices, by the move from its site in D to its site in E
 abbrev pub Near : (ℕ → ℕ → ℕ) → (ℕ → ℕ) → List ℕ → List ℕ → Type 0
 Near v d D E = (t : ℕ) → t < length D → d (at D t) + v t (at E t) ≤ d (at E t) + v t (at D t)
-
--- the street t is tight for the site b: the move of it there neither gains nor loses, after prices
-abbrev pub Tight : (ℕ → ℕ → ℕ) → (ℕ → ℕ) → List ℕ → ℕ → ℕ → Type 0
-Tight v d D t b = d (at D t) + v t b ≡ d b + v t (at D t)
 
 -- then all the streets together do not gain by it
 pub sum-le : (v : ℕ → ℕ → ℕ) (d : ℕ → ℕ) (D E : List ℕ) → length D ≡ length E → Near v d D E

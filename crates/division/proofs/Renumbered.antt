@@ -12,9 +12,9 @@ use lib.ListN.{length, length-map}
 use borrow.Author.Tests.{eq-eqb, ne-eqb}
 use Rattle.counting.specs.Words.{one}
 use Rattle.counting.specs.Lists.{at, count}
-use Rattle.division.specs.Shares.{share, InShares, divisionTotal}
+use Rattle.division.specs.Shares.{share, InShares, divisionTotal, shareSum}
 use Rattle.division.specs.Divide.{divide, First}
-use Rattle.division.proofs.Counts.{shareSum, count-total, divisionTotal-same, divisionTotal-even, in-length, has-share}
+use Rattle.division.proofs.Counts.{count-total, divisionTotal-same, divisionTotal-even, in-length, has-share}
 use Rattle.division.proofs.Best.{divide-in, divide-length, divide-most, divide-first, divide-only}
 
 -- each site with a share in c has the same share in d under its new number, and g leads back

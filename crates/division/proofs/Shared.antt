@@ -17,9 +17,8 @@ use Rattle.counting.specs.Lists.{at, has, distinct}
 use Rattle.counting.specs.Buffers.{joined, listOf}
 use Rattle.counting.specs.Sites.{Sites}
 use Rattle.counting.proofs.Membership.{has-head, has-tail}
-use Rattle.division.specs.Shares.{share, shareAmong, sharesOf}
+use Rattle.division.specs.Shares.{share, shareAmong, sharesOf, shareSum}
 use Rattle.counting.proofs.Sums.{listOf-length, listOf-at, sumOf-same, sumOf-more, sumOf-front, sumOf-even, has-at, has-index}
-use Rattle.division.proofs.Counts.{shareSum}
 
 -- one site more at the end of the shares adds its share to their sum
 shareSum-last : (c : List ℕ) (x : ℕ) → shareSum (c ++ (x ∷ [])) ≡ shareSum c + x

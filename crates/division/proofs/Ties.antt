@@ -10,19 +10,12 @@ use native.Mathlib.Nat.{suc-inj, eq-or-lt-of-le, le-of-suc-le-suc}
 use native.Mathlib.Omega.{arith}
 use lib.ListN.{length}
 use Rattle.counting.specs.Lists.{at}
+use Rattle.division.specs.Prices.{Priced, Tight, Agree, FirstTo}
 use Rattle.division.specs.Shares.{share, InShares, divisionTotal}
 use Rattle.division.specs.Divide.{divide, First}
 use Rattle.division.proofs.Counts.{in-length, has-share}
 use Rattle.division.proofs.Best.{divide-only}
-use Rattle.division.proofs.Dual.{Priced, Tight, Cut, weak, tight, cut}
-
--- two divisions agree on the streets before t
-abbrev pub Agree : List ℕ → List ℕ → ℕ → Type 0
-Agree D E t = (u : ℕ) → u < t → at E u ≡ at D u
-
--- no division that is in the shares, and totals what D does, has a lower site at the first street where they differ, if that is before s
-abbrev pub FirstTo : (ℕ → ℕ → ℕ) → List ℕ → List ℕ → ℕ → Type 0
-FirstTo v c D s = (E : List ℕ) → InShares E c → divisionTotal v E ≡ divisionTotal v D → (t : ℕ) → t < s → Agree D E t → at D t ≤ at E t
+use Rattle.division.proofs.Dual.{Cut, weak, tight, cut}
 
 -- what a turn at street s makes of D: it keeps the total and the streets before s, and puts s on the lowest site of the cut that is tight for it
 pub record Step (v : ℕ → ℕ → ℕ) (d : ℕ → ℕ) (c D : List ℕ) (s : ℕ) (R : ℕ → Bool) (E : List ℕ) : Type 0 where

@@ -7,7 +7,7 @@ use native.Mathlib.Omega.{arith}
 use lib.ListN.{length}
 use Rattle.counting.specs.Lists.{at}
 use Rattle.division.specs.Shares.{share, InShares}
-use Rattle.division.specs.Town.{tail}
+use Rattle.division.specs.Problem.{tail}
 use Rattle.division.proofs.Counts.{share-fits, has-share}
 
 -- a site's share is the number at its index

@@ -7,7 +7,7 @@ use mathlib.Core.Logic.{_⊎_}
 use mathlib.Core.List.{List, [], _∷_}
 use lib.Dec.{ltb}
 use lib.ListN.{length}
-use Rattle.counting.specs.Choice.{greatest}
+use Rattle.counting.specs.Greatest.{greatest}
 use Rattle.division.specs.Shares.{share, less, divisionTotal}
 
 -- whether a site has a share left

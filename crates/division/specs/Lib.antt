@@ -1,3 +1,4 @@
 pub mod Shares
 pub mod Divide
-pub mod Town
+pub mod Problem
+pub mod Prices

@@ -1,7 +1,7 @@
 -- Divisions and shares, over any value `v street site`. A division is the list of the streets' sites; shares are the list of the numbers of
 -- streets that the sites 1, 2, .., m are to have, 0 for a site that is not chosen. Site 0 has no share.
 -- Assumes nothing.
-use Prim.Native.Nat.{ℕ, zero, suc, _+_, pred}
+use Prim.Native.Nat.{ℕ, zero, suc, _+_, _*_, pred}
 use mathlib.Core.Path.{_≡_}
 use mathlib.Core.Bool.{cond}
 use mathlib.Core.List.{List, [], _∷_}
@@ -37,3 +37,12 @@ shareAmong q (b ∷ chosen) a = let more : ℕ = shareAmong (λ i. q (suc i)) ch
 -- the shares of the sites 1 to m
 abbrev pub sharesOf : (ℕ → ℕ) → List ℕ → ℕ → List ℕ
 sharesOf q chosen m = listOf m (λ i. shareAmong q chosen (suc i))
+
+-- over the sites, the sum of share times price
+abbrev pub dot : List ℕ → (ℕ → ℕ) → ℕ
+dot [] d = 0
+dot (x ∷ c) d = x * d 1 + dot c (λ a. d (suc a))
+
+-- the sum of the shares: how many streets they are for
+abbrev pub shareSum : List ℕ → ℕ
+shareSum c = dot c (λ a. 1)

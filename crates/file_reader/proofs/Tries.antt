@@ -11,7 +11,7 @@ use lib.ListN.{getD, take, drop}
 use borrow.Author.Tests.{lt-ltb, le-ltb, eq-eqb, ne-eqb}
 use Rattle.counting.specs.Words.{firstOf}
 use Rattle.counting.specs.Lists.{at}
-use Rattle.counting.specs.Marks.{Marks}
+use Rattle.counting.specs.Flags.{Marks}
 use Rattle.counting.proofs.Refusals.{first-same}
 use Rattle.counting.proofs.Sums.{listOf-length, listOf-at}
 use Rattle.survey.specs.Refusals.{scoreRefusal, scoresRefusal}

@@ -12,9 +12,9 @@ use native.Mathlib.Omega.{arith}
 use lib.ListN.{length}
 use Rattle.counting.specs.Words.{one}
 use Rattle.counting.specs.Lists.{has, distinct, sum}
-use Rattle.counting.specs.Choice.{unchosen}
+use Rattle.counting.specs.Greatest.{unchosen}
 use Rattle.counting.proofs.Membership.{one-not, one-more, has-head, has-tail, sum-two, sum-le, sum-length, distinct-within}
-use Rattle.counting.proofs.Choice.{unchosen-yes, greatest-of}
+use Rattle.counting.proofs.Greatest.{unchosen-yes, greatest-of}
 use Rattle.free_plan.specs.Greedy.{total, totalWith, pick, greedy}
 use Rattle.counting.specs.Sites.{Sites, Sub}
 use Rattle.free_plan.proofs.Totals.{total-append, total-prepend, total-step, total-again}

@@ -13,10 +13,10 @@ use lib.Seq.{take-all, take-append-le}
 use Rattle.counting.specs.Lists.{at, has}
 use Rattle.counting.proofs.Refusals.{or-left, when-some, first-find}
 use Rattle.counting.proofs.Membership.{has-append}
-use Rattle.counting.proofs.Plans.{plan-none, plan-add}
-use Rattle.counting.proofs.Choice.{unchosen-only, unchosen-greatest}
+use Rattle.counting.proofs.Choices.{plan-none, plan-add}
+use Rattle.counting.proofs.Greatest.{unchosen-only, unchosen-greatest}
 use Rattle.free_plan.specs.Greedy.{pick, greedy, chosenAt, goesTo}
-use Rattle.counting.specs.Sites.{Sub, Plan}
+use Rattle.counting.specs.Sites.{Sub, Choice}
 
 -- a list with more sites behind it holds those that it had
 pub sub-append : (S T : List ℕ) → Sub S (S ++ T)
@@ -24,7 +24,7 @@ sub-append S T a h = rw has-append (or-left (has a S) (has a T) h)
 
 module _ (v : ℕ → ℕ → ℕ) (n m : ℕ) where
   -- a round makes a plan of one site more, while a site is left
-  pub pick-plan : {i : ℕ} {S : List ℕ} → Plan m i S → i < m → Plan m (suc i) (S ++ (pick v n m S ∷ []))
+  pub pick-plan : {i : ℕ} {S : List ℕ} → Choice m i S → i < m → Choice m (suc i) (S ++ (pick v n m S ∷ []))
   pick-plan {i} {S} p l =
       let c = unchosen-greatest S _ m (omega (arith, p .size)) in
       let (low, new) = unchosen-only S (pick v n m S) (c .passes) in
@@ -35,12 +35,12 @@ module _ (v : ℕ → ℕ → ℕ) (n m : ℕ) where
   greedy-next k S = rw add-one refl
 
   -- k rounds from a plan make a plan of k sites more
-  pub greedy-plan : {i : ℕ} {S : List ℕ} (k : ℕ) → Plan m i S → i + k ≤ m → Plan m (i + k) (greedy v n m k S)
+  pub greedy-plan : {i : ℕ} {S : List ℕ} (k : ℕ) → Choice m i S → i + k ≤ m → Choice m (i + k) (greedy v n m k S)
   greedy-plan zero p l = rw add-zero p
   greedy-plan (suc k) p l = rw add-suc (pick-plan (greedy-plan k p (omega arith)) (omega arith))
 
   -- the free plan: k rounds from no site make a plan of k sites
-  pub free-plan : (k : ℕ) → k ≤ m → Plan m k (greedy v n m k [])
+  pub free-plan : (k : ℕ) → k ≤ m → Choice m k (greedy v n m k [])
   free-plan k l = rw zero-add at (greedy-plan k plan-none (omega arith))
 
   -- k rounds add k entries

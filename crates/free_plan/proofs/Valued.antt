@@ -6,8 +6,8 @@ use mathlib.Core.Logic.{⊎-elim}
 use mathlib.Core.List.{List, [], _∷_, _++_}
 use Prim.Native.Nat.{ℕ, zero, suc, _≤_, _<_}
 use Rattle.counting.specs.Lists.{has}
-use Rattle.counting.specs.Choice.{unchosen}
-use Rattle.counting.proofs.Choice.{greatest-le, greatest-same}
+use Rattle.counting.specs.Greatest.{unchosen}
+use Rattle.counting.proofs.Greatest.{greatest-le, greatest-same}
 use Rattle.counting.proofs.Membership.{has-head, has-tail, has-last}
 use Rattle.counting.proofs.Sums.{sumOf-same}
 use Rattle.free_plan.specs.Greedy.{best, total, totalWith, pick, greedy}

@@ -6,7 +6,7 @@ use mathlib.Core.List.{List, [], _∷_, _++_}
 use lib.ListN.{length}
 use Rattle.counting.specs.Words.{_when_, firstOf, sumOf}
 use Rattle.counting.specs.Lists.{at}
-use Rattle.counting.specs.Choice.{greatest, unchosen}
+use Rattle.counting.specs.Greatest.{greatest, unchosen}
 
 -- the best score that any of the sites gives one street, which gives the site a the score f a
 abbrev pub best : (ℕ → ℕ) → List ℕ → ℕ

@@ -32,8 +32,8 @@ module _ (n m : ℕ) (scores rows : List ℕ) (ok : Accepted n m scores rows) (s
       (held .bests-size, ok .few-streets, bests-small (value m scores rows) n state held (λ s a. omega (arith, valued-bound ok s a)))
 
   -- the streets may be served
-  pub serve-ready : (i : ℕ) → i ≡ n → (length rows ≡ i * m) × (length (state .marks) ≡ 256)
-  serve-ready i e = (rw e (ok .rows-fit), held .marks .size)
+  pub serve-ready : (i : ℕ) → i ≡ n → (length rows ≡ i * m) × (length (state .flags) ≡ 256)
+  serve-ready i e = (rw e (ok .rows-fit), held .flags .size)
 
   -- a street's list holds sites up to m alone
   list-bound : (s : ℕ) → s < n → (j : ℕ) → at (listOfStreet m rows s) j ≤ m
@@ -49,18 +49,18 @@ module _ (n m : ℕ) (scores rows : List ℕ) (ok : Accepted n m scores rows) (s
     total-found r e = e ∙ total-is (value m scores rows) n state held ∙ ap (λ (T : List ℕ). total (value m scores rows) n T) sites
 
     -- by the flags a street goes where it goes by the sites
-    goes : (s : ℕ) → s < n → goesTo (λ a. getD (state .marks) a false) (listOfStreet m rows s) ≡ goesTo (λ a. has a S) (listOfStreet m rows s)
+    goes : (s : ℕ) → s < n → goesTo (λ a. getD (state .flags) a false) (listOfStreet m rows s) ≡ goesTo (λ a. has a S) (listOfStreet m rows s)
     goes s l =
-        first-same (length (listOfStreet m rows s)) (chosenAt (λ a. getD (state .marks) a false) (listOfStreet m rows s)) (chosenAt (λ a. has a S) (listOfStreet m rows s))
+        first-same (length (listOfStreet m rows s)) (chosenAt (λ a. getD (state .flags) a false) (listOfStreet m rows s)) (chosenAt (λ a. has a S) (listOfStreet m rows s))
         (λ j lj.
         let site = at (listOfStreet m rows s) j in
         let low : site < 256 = omega (arith, list-bound s l j, ok .few-sites) in
-        ap (λ (t : Bool). site when t) (held .marks .right site low ∙ ap (λ (T : List ℕ). has site T) sites))
+        ap (λ (t : Bool). site when t) (held .flags .right site low ∙ ap (λ (T : List ℕ). has site T) sites))
 
-    pub served : (i : ℕ) (division : List ℕ) → i ≡ n → division ≡ listOf i (λ s. goesTo (λ a. getD (state .marks) a false) (listOfStreet m rows s))
+    pub served : (i : ℕ) (division : List ℕ) → i ≡ n → division ≡ listOf i (λ s. goesTo (λ a. getD (state .flags) a false) (listOfStreet m rows s))
         → division ≡ listOf n (λ s. goesTo (λ a. has a S) (listOfStreet m rows s))
     served i division e d =
-        d ∙ ap (λ (k : ℕ). listOf k (λ s. goesTo (λ a. getD (state .marks) a false) (listOfStreet m rows s))) e ∙ listOf-same n _ _ (λ s l. goes s l)
+        d ∙ ap (λ (k : ℕ). listOf k (λ s. goesTo (λ a. getD (state .flags) a false) (listOfStreet m rows s))) e ∙ listOf-same n _ _ (λ s l. goes s l)
 
     -- the sites come out in order of choice
     pub copied : (k : ℕ) (chosen : List ℕ) → state .count ≡ k → chosen ≡ take k (state .chosen) → chosen ≡ S

@@ -24,7 +24,7 @@ module _ (n m : ℕ) (scores rows : List ℕ) (ok : Accepted n m scores rows) (t
       record {
         chosen-size = held .chosen-size;
         bests-size = held .bests-size;
-        marks = held .marks;
+        flags = held .flags;
         bests = λ s l. held .bests s l ∙ best-agree (siteValue (take ((m + 1) * n) (table ++ rest)) n) (value m scores rows) n m (table-same n m scores rows ok table rest h) s l (sitesOf state)
             (subst (AtMost m) (sym sites) (greedy-most (siteValue (take ((m + 1) * n) (table ++ rest)) n) n m k start low));
       }

@@ -59,8 +59,8 @@ pub fn divide(
     ensures division { λ _. ⌜ now (division .exit) ≡ listOf n (λ s. goesTo (λ a. has a (now (sites .entry))) (listOfStreet m (now (rows .entry)) s)) ⌝ }
 {
     let state = planned(n, m, scores, rows, sites, 0);
-    let marks = state.marks;
-    serve::serve(rows, m, &marks, division);
+    let flags = state.flags;
+    serve::serve(rows, m, &flags, division);
     total_of(state, n)
 }
 
@@ -82,9 +82,9 @@ pub fn plan(
     let k = chosen.len();
     let none = [0u8; 1];
     let state = planned(n, m, scores, rows, &none[..0], k);
-    let marks = state.marks;
+    let flags = state.flags;
     let sites = state.chosen;
-    serve::serve(rows, m, &marks, division);
+    serve::serve(rows, m, &flags, division);
     serve::copy(&sites[..k], chosen);
     total_of(state, n)
 }

@@ -8,9 +8,9 @@ ghost use Rattle.survey.specs.Rows.{rankedPart, listOfStreet};
 ghost use Rattle.free_plan.specs.Greedy.{goesTo};
 
 // Where a street with this row goes. One look at the row is enough: its first zero ends the ranked part, and the first site that is chosen wins.
-fn first_flagged(row: &[u8], marks: &[bool]) -> u8
-    requires { ⌜ length (now marks) ≡ 256 ⌝ }
-    ensures { λ r. ⌜ r ≡ goesTo (λ a. getD (now (marks .entry)) a false) (rankedPart (now (row .entry))) ⌝ }
+fn first_flagged(row: &[u8], flags: &[bool]) -> u8
+    requires { ⌜ length (now flags) ≡ 256 ⌝ }
+    ensures { λ r. ⌜ r ≡ goesTo (λ a. getD (now (flags .entry)) a false) (rankedPart (now (row .entry))) ⌝ }
 {
     for j in 0..row.len() {
         let site = row[j];
@@ -18,7 +18,7 @@ fn first_flagged(row: &[u8], marks: &[bool]) -> u8
             return 0;
         }
         let flag = site as usize;
-        if marks[flag] {
+        if flags[flag] {
             return site;
         }
     }
@@ -26,22 +26,22 @@ fn first_flagged(row: &[u8], marks: &[bool]) -> u8
 }
 
 // Where the street s goes.
-fn street(rows: &[u8], m: usize, s: usize, marks: &[bool]) -> u8
-    requires { ⌜ (s * m + m ≤ length (now rows)) × (length (now marks) ≡ 256) ⌝ }
-    ensures { λ r. ⌜ r ≡ goesTo (λ a. getD (now (marks .entry)) a false) (listOfStreet m (now (rows .entry)) s) ⌝ }
+fn street(rows: &[u8], m: usize, s: usize, flags: &[bool]) -> u8
+    requires { ⌜ (s * m + m ≤ length (now rows)) × (length (now flags) ≡ 256) ⌝ }
+    ensures { λ r. ⌜ r ≡ goesTo (λ a. getD (now (flags .entry)) a false) (listOfStreet m (now (rows .entry)) s) ⌝ }
 {
     let from = s * m;
     let to = from + m;
-    first_flagged(&rows[from..to], marks)
+    first_flagged(&rows[from..to], flags)
 }
 
 // Each street goes to the first of its list that is chosen, 0 if none is.
-pub fn serve(rows: &[u8], m: usize, marks: &[bool], division: &mut [u8])
-    requires { ⌜ (length (now rows) ≡ length (now division) * m) × (length (now marks) ≡ 256) ⌝ }
-    ensures { λ _. ⌜ now (division .exit) ≡ listOf (length (now (division .entry))) (λ s. goesTo (λ a. getD (now (marks .entry)) a false) (listOfStreet m (now (rows .entry)) s)) ⌝ }
+pub fn serve(rows: &[u8], m: usize, flags: &[bool], division: &mut [u8])
+    requires { ⌜ (length (now rows) ≡ length (now division) * m) × (length (now flags) ≡ 256) ⌝ }
+    ensures { λ _. ⌜ now (division .exit) ≡ listOf (length (now (division .entry))) (λ s. goesTo (λ a. getD (now (flags .entry)) a false) (listOfStreet m (now (rows .entry)) s)) ⌝ }
 {
     for s in 0..division.len() {
-        division[s] = street(rows, m, s, marks);
+        division[s] = street(rows, m, s, flags);
     }
 }
 

@@ -12,15 +12,15 @@ use lib.ListN.{length, take, drop, set, length-set, length-take, length-append, 
 use lib.Seq.{take-suc-set, getD-take, length-take-le}
 use Rattle.counting.specs.Words.{sumOf}
 use Rattle.counting.specs.Lists.{at}
-use Rattle.counting.specs.Choice.{greatest, unchosen}
+use Rattle.counting.specs.Greatest.{greatest, unchosen}
 use Rattle.counting.specs.Buffers.{Mapped}
-use Rattle.counting.proofs.Choice.{greatest-same}
-use Rattle.counting.proofs.Marking.{marks-none, marks-more}
+use Rattle.counting.proofs.Greatest.{greatest-same}
+use Rattle.counting.proofs.Flagging.{flags-none, flags-more}
 use Rattle.counting.proofs.Sums.{sumOf-same, at-past}
 use Rattle.site_values.specs.Table.{siteValue}
 use Rattle.free_plan.specs.Greedy.{best, total, totalWith, pick}
 use Rattle.free_plan.proofs.Totals.{best-append, best-le, total-step, total-bound}
-use Rattle.free_rounds.proofs.Turns.{bounded-same}
+use Rattle.free_rounds.proofs.RoundLoops.{bounded-same}
 use Rattle.free_rounds.specs.declared.State.{State}
 use Rattle.free_rounds.specs.Held.{Held, Bounded, Bounds, Scores, sitesOf, emptyState, unflagged, withSite}
 
@@ -30,7 +30,7 @@ held-none v n =
     record {
       chosen-size = length-replicate {A = ℕ} 64 0;
       bests-size = length-replicate {A = ℕ} 400 0;
-      marks = marks-none;
+      flags = flags-none;
       bests = λ s l. nought s (decLt s 400);
     }
   where
@@ -61,7 +61,7 @@ stateWith state site bests =
     record {
       chosen = set (state .chosen) (state .count) site;
       count = state .count + 1;
-      marks = set (state .marks) site true;
+      flags = set (state .flags) site true;
       bests = bests;
       bounds = state .bounds;
     }
@@ -84,7 +84,7 @@ held-more v n state site row part bests h l small few same t e =
     record {
       chosen-size = simp length-set (h .chosen-size);
       bests-size = ap length e ∙ omega (arith, length-append part (drop n (state .bests)), length-drop n (state .bests), h .bests-size);
-      marks = rw sites (marks-more (state .marks) (sitesOf state) site small (h .marks));
+      flags = rw sites (flags-more (state .flags) (sitesOf state) site small (h .flags));
       bests = λ s ls.
           let now : at bests s ≡ at part s = ap (λ (b : List ℕ). at b s) e ∙ List·getD-append part (drop n (state .bests)) 0 s (omega arith) in
           let old : at (take n (state .bests)) s ≡ best (v s) (sitesOf state) = getD-take n (state .bests) s 0 ls ∙ h .bests s ls in
@@ -110,11 +110,11 @@ bounds-more v n state site bests h l b =
 -- the state with other bounds
 abbrev pub stateBounds : State → List ℕ → State
 stateBounds state bounds =
-    record { chosen = state .chosen; count = state .count; marks = state .marks; bests = state .bests; bounds = bounds }
+    record { chosen = state .chosen; count = state .count; flags = state .flags; bests = state .bests; bounds = bounds }
 
 -- it holds what it did
 pub held-bounds : (v : ℕ → ℕ → ℕ) (n : ℕ) (state : State) (bounds : List ℕ) → Held v n state → Held v n (stateBounds state bounds)
-held-bounds v n state bounds h = record { chosen-size = h .chosen-size; bests-size = h .bests-size; marks = h .marks; bests = h .bests }
+held-bounds v n state bounds h = record { chosen-size = h .chosen-size; bests-size = h .bests-size; flags = h .flags; bests = h .bests }
 
 -- each street's best is a score
 pub bests-small : (v : ℕ → ℕ → ℕ) (n : ℕ) (state : State) → Held v n state → ((s a : ℕ) → v s a ≤ 1000) → Scores (take n (state .bests))
@@ -134,10 +134,10 @@ with-is values n state h low a =
 
 -- the site of greatest sum among those not flagged is the round's choice
 pub choice-is : (values : List ℕ) (n m : ℕ) (state : State) → Held (siteValue values n) n state → n ≤ 400 → m ≤ 64
-    → greatest (unflagged (state .marks)) (withSite values (take n (state .bests))) m ≡ pick (siteValue values n) n m (sitesOf state)
+    → greatest (unflagged (state .flags)) (withSite values (take n (state .bests))) m ≡ pick (siteValue values n) n m (sitesOf state)
 choice-is values n m state h low few =
-    greatest-same (unflagged (state .marks)) (unchosen (sitesOf state)) _ (totalWith (siteValue values n) n (sitesOf state)) m
-    (λ a l. ap (λ (t : Bool). ltb 0 a && not t) (h .marks .right a (omega arith))) (λ a l y. with-is values n state h low a)
+    greatest-same (unflagged (state .flags)) (unchosen (sitesOf state)) _ (totalWith (siteValue values n) n (sitesOf state)) m
+    (λ a l. ap (λ (t : Bool). ltb 0 a && not t) (h .flags .right a (omega arith))) (λ a l y. with-is values n state h low a)
 
 -- the sum of the bests is the total of the sites
 pub total-is : (v : ℕ → ℕ → ℕ) (n : ℕ) (state : State) → Held v n state → sumOf n (at (take n (state .bests))) ≡ total v n (sitesOf state)

@@ -8,7 +8,7 @@ use lib.Dec.{ltb}
 use lib.ListN.{length, getD, take, replicate}
 use Rattle.counting.specs.Words.{sumOf}
 use Rattle.counting.specs.Lists.{at}
-use Rattle.counting.specs.Marks.{Marks}
+use Rattle.counting.specs.Flags.{Flags}
 use Rattle.site_values.specs.Table.{siteValue}
 use Rattle.free_plan.specs.Greedy.{best, total, totalWith}
 use Rattle.free_rounds.specs.declared.State.{State}
@@ -19,13 +19,13 @@ sitesOf state = take (state .count) (state .chosen)
 
 -- the state in which none is chosen
 abbrev pub emptyState : State
-emptyState = record { chosen = replicate 64 0; count = 0; marks = replicate 256 false; bests = replicate 400 0; bounds = replicate 65 400000 }
+emptyState = record { chosen = replicate 64 0; count = 0; flags = replicate 256 false; bests = replicate 400 0; bounds = replicate 65 400000 }
 
 -- the state holds the flags of its sites, and for each street the best score that they give it
 pub record Held (v : ℕ → ℕ → ℕ) (n : ℕ) (state : State) : Type 0 where
   pub chosen-size : length (state .chosen) ≡ 64
   pub bests-size : length (state .bests) ≡ 400
-  pub marks : Marks (state .marks) (sitesOf state)
+  pub flags : Flags (state .flags) (sitesOf state)
   pub bests : (s : ℕ) → s < n → at (state .bests) s ≡ best (v s) (sitesOf state)
 
 -- a bound for each of the sites 0, 1, .., 64 of what it raises a total by, where `worth` is the total with a site besides

@@ -16,7 +16,7 @@ pub mod sums;
 pub struct State {
     pub chosen: [u8; 64],
     pub count: usize,
-    pub marks: [bool; 256],
+    pub flags: [bool; 256],
     pub bests: [u16; 400],
     pub bounds: [u32; 65],
 }
@@ -29,7 +29,7 @@ impl State {
         Self {
             chosen: [0u8; 64],
             count: 0,
-            marks: [false; 256],
+            flags: [false; 256],
             bests: [0u16; 400],
             bounds: [400000u32; 65],
         }
@@ -47,7 +47,7 @@ impl State {
         let flag = site as usize;
         self.chosen[at] = site;
         self.count = at + 1;
-        self.marks[flag] = true;
+        self.flags[flag] = true;
         let from = flag * n;
         let to = from + n;
         let mut bests = self.bests;
@@ -65,9 +65,9 @@ impl State {
         ensures held { λ r. ⌜ Held (siteValue (now (values .entry)) n) n r × Bounds (siteValue (now (values .entry)) n) n r ⌝ }
     {
         let bests = self.bests;
-        let marks = self.marks;
+        let flags = self.flags;
         let mut bounds = self.bounds;
-        let site = pick::choose(values, &bests[..n], m, &marks, &mut bounds);
+        let site = pick::choose(values, &bests[..n], m, &flags, &mut bounds);
         self.bounds = bounds;
         self = self.taking(values, n, m, site as u8);
         self

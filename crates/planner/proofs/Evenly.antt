@@ -7,18 +7,17 @@ use mathlib.Core.List.{List}
 use Prim.Native.Nat.{ℕ, _*_, _/_}
 use lib.ListN.{length}
 use Rattle.counting.specs.Buffers.{after}
-use Rattle.counting.specs.Sites.{Plan}
+use Rattle.counting.specs.Sites.{Choice}
 use Rattle.survey.specs.Rows.{value}
 use Rattle.survey.specs.Refusals.{shareRefusal, surveyRefusal}
-use Rattle.division.specs.Shares.{divisionTotal}
-use Rattle.division.proofs.Counts.{shareSum}
+use Rattle.division.specs.Shares.{divisionTotal, shareSum}
 use Rattle.division.proofs.Best.{divide-in, divide-most, divide-first}
 use Rattle.balanced_plan.specs.Rounds.{placeKey}
 use Rattle.balanced_results.specs.Shareable.{Shareable}
 use Rattle.balanced_results.specs.Plans.{planSites, planDivision}
-use Rattle.balanced_results.proofs.Divided.{for-all}
-use Rattle.balanced_results.proofs.Played.{sites-plan, sites-shareable}
-use Rattle.balanced_results.proofs.Surveyed.{plan-floor}
+use Rattle.balanced_results.proofs.ListShares.{for-all}
+use Rattle.balanced_results.proofs.SurveyRounds.{sites-plan, sites-shareable}
+use Rattle.balanced_results.proofs.SurveyFloor.{plan-floor}
 use Rattle.refusals.specs.Refusals.{balancedDivisionRefusal, balancedPlanRefusal, balancedHandRefusal}
 use Rattle.refusals.proofs.Listed.{list-sites, list-apart, balanced-division-listed, balanced-division-even, balanced-plan-own, balanced-plan-fits, Called, called, even}
 use Rattle.planner.specs.Plans.{planTotal, sharesFor, balancedDivision, balancedSites, balancedTotal, streetPlace}
@@ -75,7 +74,7 @@ module _ (n m k own : ℕ) (scores rows : List ℕ) (ok : surveyRefusal n m k ow
   equal : k * (n / k) ≡ n
   equal = even n k divides
 
-  sites : Plan m k (balancedSites n m k scores rows)
+  sites : Choice m k (balancedSites n m k scores rows)
   sites = sites-plan (value m scores rows) (placeKey (streetPlace m rows) m) n m k (call .few) equal (balancedSites n m k scores rows) refl
 
   -- over as many sites as were to be chosen the share is that of the plan

@@ -6,7 +6,7 @@ use mathlib.Core.List.{List}
 use Prim.Native.Nat.{ℕ}
 use lib.ListN.{length}
 use Rattle.counting.specs.Buffers.{after}
-use Rattle.counting.specs.Sites.{Plan}
+use Rattle.counting.specs.Sites.{Choice}
 use Rattle.survey.specs.Rows.{value}
 use Rattle.survey.specs.Refusals.{surveyRefusal}
 use Rattle.survey.proofs.Sound.{accepted, chosen-within}
@@ -23,7 +23,7 @@ use Rattle.refusals.proofs.Listed.{free-plan-fits}
 
 module _ (n m k own : ℕ) (scores rows : List ℕ) (ok : surveyRefusal n m k own scores rows ≡ 0) where
   -- the sites are k different ones
-  plan : Plan m k (freeSites n m k scores rows)
+  plan : Choice m k (freeSites n m k scores rows)
   plan = free-plan (value m scores rows) n m k (chosen-within n m k own scores rows ok .1)
 
   -- the free plan passes its own test

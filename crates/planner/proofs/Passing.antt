@@ -12,7 +12,7 @@ use lib.ListN.{length}
 use borrow.Author.Tests.{ltb-true}
 use Rattle.counting.specs.Words.{one}
 use Rattle.counting.specs.Lists.{at, has, count}
-use Rattle.counting.specs.Sites.{Plan}
+use Rattle.counting.specs.Sites.{Choice}
 use Rattle.counting.proofs.Sums.{listOf-length, listOf-at, sumOf-same, sumOf-le, has-index}
 use Rattle.counting.proofs.Membership.{one-more}
 use Rattle.counting.proofs.Listed.{count-has}
@@ -31,7 +31,7 @@ use Rattle.refusals.proofs.Listed.{even}
 use Rattle.refusals.proofs.Passed.{free-passed, balanced-passed}
 use Rattle.planner.specs.Plans.{listTotal, freeDivision, planTotal, sharesFor, balancedDivision}
 
-module _ (n m k own : ℕ) (scores rows sites : List ℕ) (ok : surveyRefusal n m k own scores rows ≡ 0) (plan : Plan m k sites) where
+module _ (n m k own : ℕ) (scores rows sites : List ℕ) (ok : surveyRefusal n m k own scores rows ≡ 0) (plan : Choice m k sites) where
   -- ---- the free division
   -- where a street goes
   abbrev goes : ℕ → ℕ

@@ -4,7 +4,7 @@ use mathlib.Core.Path.{_≡_}
 use mathlib.Core.List.{List}
 use lib.ListN.{take}
 use Prim.Native.Nat.{ℕ, _-_, _*_, _^_, _≤_}
-use Rattle.counting.specs.Sites.{Plan}
+use Rattle.counting.specs.Sites.{Choice}
 use Rattle.division.specs.Shares.{InShares}
 use Rattle.division.specs.Divide.{First}
 use Rattle.survey.specs.Refusals.{kindRefusal, surveyRefusal}
@@ -16,12 +16,12 @@ use Rattle.planner.specs.Plans.{listTotal, planTotal, sharesFor, planFlo
 -- a free plan of k sites with the total that it reports
 pub record GoodFree (n m k : ℕ) (scores rows division chosen : List ℕ) (reported : ℕ) : Type 0 where
   -- the sites are k different ones of 1 to m
-  pub sites : Plan m k chosen
+  pub sites : Choice m k chosen
   -- the total is that of the sites, and the sum of the scores that the streets give the sites they go to
   pub of-sites : reported ≡ listTotal n m scores rows chosen
   pub of-streets : reported ≡ planTotal m scores rows division
   -- no choice of k sites is better by more than the bound says: K ^ K * (T - S) ≤ (K - 1) ^ K * T
-  pub bound : (other : List ℕ) → Plan m k other
+  pub bound : (other : List ℕ) → Choice m k other
       → k ^ k * (listTotal n m scores rows other - reported) ≤ (k - 1) ^ k * listTotal n m scores rows other
   -- the plan passes the test of a free hand plan
   pub passes : freeHandRefusal n m k scores rows division reported ≡ 0
@@ -40,7 +40,7 @@ pub record BestDivision (n m : ℕ) (scores rows sites division : List ℕ) (rep
 -- a balanced plan of k sites with the total that it reports
 pub record GoodBalanced (n m k : ℕ) (scores rows division chosen : List ℕ) (reported : ℕ) : Type 0 where
   -- the sites are k different ones of 1 to m
-  pub sites : Plan m k chosen
+  pub sites : Choice m k chosen
   -- the division is the best one over them in equal shares, and the total is its own
   pub best : BestDivision n m scores rows chosen division reported
   -- the total is at least the floor

@@ -5,7 +5,7 @@ use mathlib.Core.List.{List, [], _∷_, _++_}
 use Prim.Native.Nat.{ℕ}
 use Rattle.counting.specs.Words.{_when_, _unless_, _orElse_, firstOf}
 use Rattle.counting.specs.Lists.{count}
-use Rattle.counting.specs.Choice.{seek, greatest}
+use Rattle.counting.specs.Greatest.{seek, greatest}
 use Rattle.counting.specs.Buffers.{joined}
 use Rattle.division.specs.Shares.{share, less, divisionTotal}
 use Rattle.division.specs.Divide.{divide}

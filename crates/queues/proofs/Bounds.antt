@@ -49,17 +49,17 @@ weighed {values} {prices} {D} {w} t y h (l, m) =
     }
 
 -- what a street that may join reads
-pub record Joinable (w k : ℕ) (sites : List ℕ) (marks : List Bool) (i x : ℕ) : Type 0 where
+pub record Joinable (w k : ℕ) (sites : List ℕ) (flags : List Bool) (i x : ℕ) : Type 0 where
   pub few-sites : w ≤ 65
   pub few-places : k ≤ 65
   pub small : x < w
-  pub flagged : x < length marks
+  pub flagged : x < length flags
   pub place : i < length sites
   pub site : at sites i < w
 
 -- places with room have all that
-pub joinable : {values prices D : List ℕ} {w k : ℕ} {streets nexts sites : List ℕ} {marks : List Bool} (i t : ℕ) → Scene values prices D w
-    → Room w streets nexts sites marks → Placed w k sites marks → (i < k) × (t < length D) → Joinable w k sites marks i (at D t)
+pub joinable : {values prices D : List ℕ} {w k : ℕ} {streets nexts sites : List ℕ} {flags : List Bool} (i t : ℕ) → Scene values prices D w
+    → Room w streets nexts sites flags → Placed w k sites flags → (i < k) × (t < length D) → Joinable w k sites flags i (at D t)
 joinable {values} {prices} {D} {w} {k} i t h room p (l, m) =
     let site : at D t < w = h .sited t m in
     let fits : k ≤ w = placed-fits p in
@@ -67,7 +67,7 @@ joinable {values} {prices} {D} {w} {k} i t h room p (l, m) =
       few-sites = h .few-sites;
       few-places = omega (arith, h .few-sites);
       small = site;
-      flagged = omega (arith, room .marks-fit);
+      flagged = omega (arith, room .flags-fit);
       place = omega (arith, room .sites-fit);
       site = p .within i l;
     }
@@ -80,8 +80,8 @@ pub record Joining (k : ℕ) (streets nexts sites : List ℕ) : Type 0 where
   pub site : k < length sites
 
 -- a site without a flag has room
-pub joining : {w k : ℕ} {streets nexts sites : List ℕ} {marks : List Bool} (x : ℕ) → w ≤ 65 → Room w streets nexts sites marks
-    → Placed w k sites marks → x < w → flag marks x ≡ false → Joining k streets nexts sites
+pub joining : {w k : ℕ} {streets nexts sites : List ℕ} {flags : List Bool} (x : ℕ) → w ≤ 65 → Room w streets nexts sites flags
+    → Placed w k sites flags → x < w → flag flags x ≡ false → Joining k streets nexts sites
 joining {w} {k} x few room p small new =
     let l : k < w = placed-room p x small new in
     record {
@@ -101,10 +101,10 @@ pub record Walk (v : ℕ → ℕ → ℕ) (d : ℕ → ℕ) (D tights ends sites
   pub fits : (j : ℕ) → j ≤ at ends (at sites i) → (at sites i * (length D + 1) + j < length tights) × (at sites i * (length D + 1) + j < 26065)
 
 -- a place of the queue has all that
-pub walk : {values prices D : List ℕ} {w k : ℕ} {streets nexts sites : List ℕ} {marks : List Bool} {v : ℕ → ℕ → ℕ} {d : ℕ → ℕ} {s : ℕ} {n : ℕ} (i : ℕ)
-    (tights ends : List ℕ) → Scene values prices D w → Room w streets nexts sites marks → (i < k) × (s < length D)
-    → Rows w (length D) tights ends × Rowed v d D tights ends → Grown v d D s w k sites streets nexts marks n → Walk v d D tights ends sites i
-walk {values} {prices} {D} {w} {k} {streets} {nexts} {sites} {marks} {v} {d} {s} {n} i tights ends h room (l, m) (rows, rowed) g =
+pub walk : {values prices D : List ℕ} {w k : ℕ} {streets nexts sites : List ℕ} {flags : List Bool} {v : ℕ → ℕ → ℕ} {d : ℕ → ℕ} {s : ℕ} {n : ℕ} (i : ℕ)
+    (tights ends : List ℕ) → Scene values prices D w → Room w streets nexts sites flags → (i < k) × (s < length D)
+    → Rows w (length D) tights ends × Rowed v d D tights ends → Grown v d D s w k sites streets nexts flags n → Walk v d D tights ends sites i
+walk {values} {prices} {D} {w} {k} {streets} {nexts} {sites} {flags} {v} {d} {s} {n} i tights ends h room (l, m) (rows, rowed) g =
     let site : at sites i < w = g .placed .within i l in
     let row : RowOf v d D tights ends (at sites i) = place-row i tights ends m l g rowed in
     record {
@@ -117,13 +117,13 @@ walk {values} {prices} {D} {w} {k} {streets} {nexts} {sites} {marks} {v} {d} {s}
     }
 
 -- buffers of the same lengths have the same room
-pub room-same : {w : ℕ} {streets nexts sites streets′ nexts′ sites′ : List ℕ} {marks marks′ : List Bool} → length streets′ ≡ length streets
-    → length nexts′ ≡ length nexts → length sites′ ≡ length sites → length marks′ ≡ length marks → Room w streets nexts sites marks
-    → Room w streets′ nexts′ sites′ marks′
+pub room-same : {w : ℕ} {streets nexts sites streets′ nexts′ sites′ : List ℕ} {flags flags′ : List Bool} → length streets′ ≡ length streets
+    → length nexts′ ≡ length nexts → length sites′ ≡ length sites → length flags′ ≡ length flags → Room w streets nexts sites flags
+    → Room w streets′ nexts′ sites′ flags′
 room-same a b c e room =
     record {
       streets-fit = omega (arith, room .streets-fit);
       nexts-fit = omega (arith, room .nexts-fit);
       sites-fit = omega (arith, room .sites-fit);
-      marks-fit = omega (arith, room .marks-fit);
+      flags-fit = omega (arith, room .flags-fit);
     }

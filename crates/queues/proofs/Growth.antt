@@ -14,7 +14,8 @@ use lib.Seq.{getD-set-same, getD-set-other}
 use borrow.Author.Count.{below-more}
 use Rattle.counting.specs.Lists.{at}
 use Rattle.counting.proofs.Tables.{pigeon}
-use Rattle.division.proofs.Dual.{Priced, Tight, Cut}
+use Rattle.division.specs.Prices.{Priced, Tight}
+use Rattle.division.proofs.Dual.{Cut}
 use Rattle.queues.specs.Queue.{flag, Placed, Clear, Later, Queue, Shut, Grown, Growing}
 
 -- ---- stores
@@ -28,24 +29,24 @@ pub grows : (xs : List ℕ) (k x : ℕ) → k < length xs → Grows xs (set xs k
 grows xs k x l = record { same = λ j m. getD-set-other xs k j x 0 (λ q. omega arith); new = getD-set-same xs k x 0 l }
 
 -- flags after one more is set
-record Flagged (marks more : List Bool) (x : ℕ) : Type 0 where
+record Flagged (flags more : List Bool) (x : ℕ) : Type 0 where
   pub set-now : flag more x ≡ true
-  pub other : (y : ℕ) → y ≢ x → flag more y ≡ flag marks y
+  pub other : (y : ℕ) → y ≢ x → flag more y ≡ flag flags y
 
 -- a store of true sets one flag
-flagged : (marks : List Bool) (x : ℕ) → x < length marks → Flagged marks (set marks x true) x
-flagged marks x l = record { set-now = getD-set-same marks x true false l; other = λ y n. getD-set-other marks x y true false n }
+flagged : (flags : List Bool) (x : ℕ) → x < length flags → Flagged flags (set flags x true) x
+flagged flags x l = record { set-now = getD-set-same flags x true false l; other = λ y n. getD-set-other flags x y true false n }
 
 -- a site without a flag had none before
-flag-less : {marks more : List Bool} {x : ℕ} → Flagged marks more x → (y : ℕ) → flag more y ≡ false → flag marks y ≡ false
-flag-less {marks} {more} {x} f y e =
+flag-less : {flags more : List Bool} {x : ℕ} → Flagged flags more x → (y : ℕ) → flag more y ≡ false → flag flags y ≡ false
+flag-less {flags} {more} {x} f y e =
     by-cases (ℕ-discrete y x) (λ q. absurd (true≢false (sym (f .set-now) ∙ rw q at e))) (λ n. sym (f .other y n) ∙ e)
 
 -- one flag more is taken back
-pub clear-more : (marks : List Bool) (i : ℕ) → i < length marks → Clear marks i → Clear (set marks i false) (i + 1)
-clear-more marks i l h =
-    below-more (λ x. flag (set marks i false) x ≡ false) i (λ x m. getD-set-other marks i x false false (λ q. omega arith) ∙ h x m)
-    (getD-set-same marks i false false l)
+pub clear-more : (flags : List Bool) (i : ℕ) → i < length flags → Clear flags i → Clear (set flags i false) (i + 1)
+clear-more flags i l h =
+    below-more (λ x. flag (set flags i false) x ≡ false) i (λ x m. getD-set-other flags i x false false (λ q. omega arith) ∙ h x m)
+    (getD-set-same flags i false false l)
 
 -- ---- places
 -- a number in front of others
@@ -54,10 +55,10 @@ ahead x f zero = x
 ahead x f (suc j) = f j
 
 -- there are at most as many places as sites
-pub placed-fits : {w k : ℕ} {sites : List ℕ} {marks : List Bool} → Placed w k sites marks → k ≤ w
+pub placed-fits : {w k : ℕ} {sites : List ℕ} {flags : List Bool} → Placed w k sites flags → k ≤ w
 placed-fits {w} {k} {sites} p = pigeon w k (at sites) (p .differ) (p .within)
 
-module _ {w k : ℕ} {sites : List ℕ} {marks : List Bool} (p : Placed w k sites marks) (x : ℕ) (small : x < w) (new : flag marks x ≡ false) where
+module _ {w k : ℕ} {sites : List ℕ} {flags : List Bool} (p : Placed w k sites flags) (x : ℕ) (small : x < w) (new : flag flags x ≡ false) where
   -- a site without a flag has no place
   apart : (j : ℕ) → j < k → at sites j ≢ x
   apart j l e = true≢false (sym (p .each j l) ∙ rw (sym e) at new)
@@ -76,17 +77,17 @@ module _ {w k : ℕ} {sites : List ℕ} {marks : List Bool} (p : Placed w k site
       within (suc i) l = p .within i (le-of-suc-le-suc l)
 
   -- it joins
-  placed-more : x < length marks → (now : List ℕ) → Grows sites now k x → Placed w (k + 1) now (set marks x true)
+  placed-more : x < length flags → (now : List ℕ) → Grows sites now k x → Placed w (k + 1) now (set flags x true)
   placed-more wide now g =
       record {
         within = below-more (λ j. at now j < w) k (λ j l. rw (g .same j l) (p .within j l)) (rw (g .new) small);
         differ = λ i j l m. below-more (λ j. (i : ℕ) → i < j → at now i ≢ at now j) k old last j m i l;
-        each = below-more (λ j. flag (set marks x true) (at now j) ≡ true) k kept (rw (g .new) (f .set-now));
+        each = below-more (λ j. flag (set flags x true) (at now j) ≡ true) k kept (rw (g .new) (f .set-now));
         only = only;
       }
     where
-      f : Flagged marks (set marks x true) x
-      f = flagged marks x wide
+      f : Flagged flags (set flags x true) x
+      f = flagged flags x wide
 
       old : (j : ℕ) → j < k → (i : ℕ) → i < j → at now i ≢ at now j
       old j m i l = rw (g .same i (omega arith), g .same j m) (p .differ i j l m)
@@ -94,24 +95,24 @@ module _ {w k : ℕ} {sites : List ℕ} {marks : List Bool} (p : Placed w k site
       last : (i : ℕ) → i < k → at now i ≢ at now k
       last i l = rw (g .same i l, g .new) (apart i l)
 
-      kept : (j : ℕ) → j < k → flag (set marks x true) (at now j) ≡ true
+      kept : (j : ℕ) → j < k → flag (set flags x true) (at now j) ≡ true
       kept j l = rw (g .same j l) (f .other (at sites j) (apart j l) ∙ p .each j l)
 
-      only : (y : ℕ) → flag (set marks x true) y ≡ true → (j : ℕ) × (j < k + 1) × (at now j ≡ y)
+      only : (y : ℕ) → flag (set flags x true) y ≡ true → (j : ℕ) × (j < k + 1) × (at now j ≡ y)
       only y e =
           by-cases (ℕ-discrete y x) (λ q. (k, omega arith, g .new ∙ sym q))
           (λ n. let (j, l, h) = p .only y (sym (f .other y n) ∙ e) in (j, omega arith, g .same j l ∙ h))
 
 -- a first site, where no flag is set
-pub placed-start : (w a : ℕ) (sites : List ℕ) (marks : List Bool) → a < w → 0 < length sites → a < length marks → Clear marks (length marks)
-    → Placed w 1 (set sites 0 a) (set marks a true)
-placed-start w a sites marks small some wide clear =
+pub placed-start : (w a : ℕ) (sites : List ℕ) (flags : List Bool) → a < w → 0 < length sites → a < length flags → Clear flags (length flags)
+    → Placed w 1 (set sites 0 a) (set flags a true)
+placed-start w a sites flags small some wide clear =
     placed-more none a small (clear a wide) wide (set sites 0 a) (grows sites 0 a some)
   where
-    unset : (x : ℕ) → flag marks x ≡ false
-    unset x = by-cases (decLt x (length marks)) (clear x) (λ n. List·getD-eq-default marks false (omega arith))
+    unset : (x : ℕ) → flag flags x ≡ false
+    unset x = by-cases (decLt x (length flags)) (clear x) (λ n. List·getD-eq-default flags false (omega arith))
 
-    none : Placed w 0 sites marks
+    none : Placed w 0 sites flags
     none = record {
       within = λ j l. absurd (omega arith);
       differ = λ i j l m. absurd (omega arith);
@@ -121,9 +122,9 @@ placed-start w a sites marks small some wide clear =
 
 module _ {v : ℕ → ℕ → ℕ} {d : ℕ → ℕ} {D : List ℕ} {s w : ℕ} where
   -- the queue has one place, home
-  pub grown-start : (sites streets nexts : List ℕ) (marks : List Bool) → at sites 0 ≡ at D s → Placed w 1 sites marks
-      → Grown v d D s w 1 sites streets nexts marks 0
-  grown-start sites streets nexts marks e p =
+  pub grown-start : (sites streets nexts : List ℕ) (flags : List Bool) → at sites 0 ≡ at D s → Placed w 1 sites flags
+      → Grown v d D s w 1 sites streets nexts flags 0
+  grown-start sites streets nexts flags e p =
       record {
         some = omega arith;
         placed = p;
@@ -132,15 +133,15 @@ module _ {v : ℕ → ℕ → ℕ} {d : ℕ → ℕ} {D : List ℕ} {s w : ℕ} 
         done = λ j l. absurd (omega arith);
       }
 
-  module _ {k : ℕ} {sites streets nexts : List ℕ} {marks : List Bool} {i : ℕ} where
+  module _ {k : ℕ} {sites streets nexts : List ℕ} {flags : List Bool} {i : ℕ} where
     -- from u on no street is tight for the site of the place
-    pub growing-start : {u : ℕ} → Grown v d D s w k sites streets nexts marks i → i < k
-        → ((t : ℕ) → u ≤ t → t < length D → Tight v d D t (at sites i) → ⊥) → Growing v d D s w k sites streets nexts marks i u
+    pub growing-start : {u : ℕ} → Grown v d D s w k sites streets nexts flags i → i < k
+        → ((t : ℕ) → u ≤ t → t < length D → Tight v d D t (at sites i) → ⊥) → Growing v d D s w k sites streets nexts flags i u
     growing-start g l none = record { grown = g; place = l; here = λ t m n a f. none t m n }
 
     -- nor is one of those before it
-    pub growing-skip : {u : ℕ} (e : ℕ) → Growing v d D s w k sites streets nexts marks i u
-        → ((t : ℕ) → e ≤ t → t < u → Tight v d D t (at sites i) → ⊥) → Growing v d D s w k sites streets nexts marks i e
+    pub growing-skip : {u : ℕ} (e : ℕ) → Growing v d D s w k sites streets nexts flags i u
+        → ((t : ℕ) → e ≤ t → t < u → Tight v d D t (at sites i) → ⊥) → Growing v d D s w k sites streets nexts flags i e
     growing-skip {u} e h none =
         record {
           grown = h .grown;
@@ -149,7 +150,7 @@ module _ {v : ℕ → ℕ → ℕ} {d : ℕ → ℕ} {D : List ℕ} {s w : ℕ} 
         }
 
     -- a place that has been looked at with all streets is done
-    pub growing-done : {u : ℕ} → Growing v d D s w k sites streets nexts marks i u → u ≤ s + 1 → Grown v d D s w k sites streets nexts marks (i + 1)
+    pub growing-done : {u : ℕ} → Growing v d D s w k sites streets nexts flags i u → u ≤ s + 1 → Grown v d D s w k sites streets nexts flags (i + 1)
     growing-done h l =
         let g = h .grown in
         record {
@@ -157,12 +158,12 @@ module _ {v : ℕ → ℕ → ℕ} {d : ℕ → ℕ} {D : List ℕ} {s w : ℕ} 
           placed = g .placed;
           queue = g .queue;
           linked = g .linked;
-          done = below-more (λ j. Shut v d D s marks (at sites j) 0) i (g .done) (λ t m n a. h .here t (omega arith) n a);
+          done = below-more (λ j. Shut v d D s flags (at sites j) 0) i (g .done) (λ t m n a. h .here t (omega arith) n a);
         }
 
     -- a street whose site is in the queue, or that is not tight, changes nothing
-    pub growing-keep : {u : ℕ} → Growing v d D s w k sites streets nexts marks i (u + 1)
-        → (flag marks (at D u) ≡ false → Tight v d D u (at sites i) → ⊥) → Growing v d D s w k sites streets nexts marks i u
+    pub growing-keep : {u : ℕ} → Growing v d D s w k sites streets nexts flags i (u + 1)
+        → (flag flags (at D u) ≡ false → Tight v d D u (at sites i) → ⊥) → Growing v d D s w k sites streets nexts flags i u
     growing-keep {u} h n =
         record {
           grown = h .grown;
@@ -170,11 +171,11 @@ module _ {v : ℕ → ℕ → ℕ} {d : ℕ → ℕ} {D : List ℕ} {s w : ℕ} 
           here = λ t m l a f y. by-cases (ℕ-discrete t u) (λ q. n (rw q at f) (rw q at y)) (λ o. h .here t (omega arith) l a f y);
         }
 
-    module _ {u : ℕ} (h : Growing v d D s w k sites streets nexts marks i (u + 1)) (after : s < u) (street : u < length D) (small : at D u < w)
-        (wide : at D u < length marks) (new : flag marks (at D u) ≡ false) (tight : Tight v d D u (at sites i)) (sites′ streets′ nexts′ : List ℕ)
+    module _ {u : ℕ} (h : Growing v d D s w k sites streets nexts flags i (u + 1)) (after : s < u) (street : u < length D) (small : at D u < w)
+        (wide : at D u < length flags) (new : flag flags (at D u) ≡ false) (tight : Tight v d D u (at sites i)) (sites′ streets′ nexts′ : List ℕ)
         (gs : Grows sites sites′ k (at D u)) (gt : Grows streets streets′ k u) (gn : Grows nexts nexts′ k i) where
       -- the queue as it was
-      g : Grown v d D s w k sites streets nexts marks i
+      g : Grown v d D s w k sites streets nexts flags i
       g = h .grown
 
       -- its places
@@ -182,11 +183,11 @@ module _ {v : ℕ → ℕ → ℕ} {d : ℕ → ℕ} {D : List ℕ} {s w : ℕ} 
       q = g .queue
 
       -- the flag of the site that joins
-      f : Flagged marks (set marks (at D u) true) (at D u)
-      f = flagged marks (at D u) wide
+      f : Flagged flags (set flags (at D u) true) (at D u)
+      f = flagged flags (at D u) wide
 
       -- what was shut stays shut
-      shut : (y e : ℕ) → Shut v d D s marks y e → Shut v d D s (set marks (at D u) true) y e
+      shut : (y e : ℕ) → Shut v d D s flags y e → Shut v d D s (set flags (at D u) true) y e
       shut y e c t l m a n = c t l m a (flag-less f (at D t) n)
 
       -- the streets of the old places stand there still
@@ -202,11 +203,11 @@ module _ {v : ℕ → ℕ → ℕ} {d : ℕ → ℕ} {D : List ℕ} {s w : ℕ} 
       linked j l m = rw (gt .same j l, gn .same j l, gs .same (at nexts j) (omega (arith, q .nearer j l m))) (g .linked j l m)
 
       -- and the site that joins has a flag
-      here : Shut v d D s (set marks (at D u) true) (at sites′ i) (u + 1) → Shut v d D s (set marks (at D u) true) (at sites′ i) u
+      here : Shut v d D s (set flags (at D u) true) (at sites′ i) (u + 1) → Shut v d D s (set flags (at D u) true) (at sites′ i) u
       here c t m l a o y = by-cases (ℕ-discrete t u) (λ q. true≢false (sym (f .set-now) ∙ rw q at o)) (λ n. c t (omega arith) l a o y)
 
       -- the site of a street that is tight joins
-      pub growing-more : Growing v d D s w (k + 1) sites′ streets′ nexts′ (set marks (at D u) true) i u
+      pub growing-more : Growing v d D s w (k + 1) sites′ streets′ nexts′ (set flags (at D u) true) i u
       growing-more =
           record {
             grown = record {
@@ -227,13 +228,13 @@ module _ {v : ℕ → ℕ → ℕ} {d : ℕ → ℕ} {D : List ℕ} {s w : ℕ} 
           }
 
   -- every place has been looked at
-  pub grown-end : {k : ℕ} {sites streets nexts : List ℕ} {marks : List Bool} (i : ℕ) → k ≤ i → i ≤ k → Grown v d D s w k sites streets nexts marks i
-      → Grown v d D s w k sites streets nexts marks k
+  pub grown-end : {k : ℕ} {sites streets nexts : List ℕ} {flags : List Bool} (i : ℕ) → k ≤ i → i ≤ k → Grown v d D s w k sites streets nexts flags i
+      → Grown v d D s w k sites streets nexts flags k
   grown-end {k} i a b g = let e : i ≡ k = le-antisymm b a in rw e at g
 
   -- a queue of which every place has been looked at is a cut
-  pub cut-of : {k : ℕ} {sites streets nexts : List ℕ} {marks : List Bool} (c : List ℕ) → Priced v d c D
-      → Grown v d D s w k sites streets nexts marks k → Cut v d c D s (flag marks)
+  pub cut-of : {k : ℕ} {sites streets nexts : List ℕ} {flags : List Bool} (c : List ℕ) → Priced v d c D
+      → Grown v d D s w k sites streets nexts flags k → Cut v d c D s (flag flags)
   cut-of c p g =
       record {
         home = rw (g .queue .home) at (g .placed .each 0 (g .some));

@@ -1,5 +1,5 @@
 pub mod Growth
 pub mod Listing
 pub mod Bounds
-pub mod Homeward
+pub mod PathBack
 pub mod Limiting

@@ -14,11 +14,10 @@ use lib.Seq.{getD-set-same, getD-set-other}
 use borrow.Author.Count.{below-more}
 use Rattle.counting.specs.Lists.{at}
 use Rattle.counting.proofs.Tables.{in-rows}
-use Rattle.division.proofs.Dual.{Tight}
-use Rattle.division.proofs.Ties.{Agree}
 use Rattle.queues.specs.Queue.{Grown, Growing}
 use Rattle.queues.specs.Tights.{Row, RowOf, Listed, Rowed, Rows}
 use Rattle.queues.proofs.Growth.{growing-start, growing-skip}
+use Rattle.division.specs.Prices.{Tight, Agree}
 
 module _ {v : ℕ → ℕ → ℕ} {d : ℕ → ℕ} {D : List ℕ} where
   -- a row without streets
@@ -115,9 +114,9 @@ module _ {v : ℕ → ℕ → ℕ} {d : ℕ → ℕ} {D : List ℕ} where
           (same (y * (length D + 1)) (omega (arith, within 0 (omega arith)))))
 
   -- the site of a place of the queue has its row
-  pub place-row : {s w k : ℕ} {sites streets nexts : List ℕ} {marks : List Bool} {i : ℕ} (n : ℕ) (tights ends : List ℕ) → s < length D → n < k
-      → Grown v d D s w k sites streets nexts marks i → Rowed v d D tights ends → RowOf v d D tights ends (at sites n)
-  place-row {s} {w} {k} {sites} {streets} {nexts} {marks} {i} n tights ends l m g rows = by-cases (decLt 0 n) away home
+  pub place-row : {s w k : ℕ} {sites streets nexts : List ℕ} {flags : List Bool} {i : ℕ} (n : ℕ) (tights ends : List ℕ) → s < length D → n < k
+      → Grown v d D s w k sites streets nexts flags i → Rowed v d D tights ends → RowOf v d D tights ends (at sites n)
+  place-row {s} {w} {k} {sites} {streets} {nexts} {flags} {i} n tights ends l m g rows = by-cases (decLt 0 n) away home
     where
       away : 0 < n → RowOf v d D tights ends (at sites n)
       away o = let e = g .queue .later n m o in rw (sym (e .stands)) (rows (at streets n) (e .street))
@@ -125,15 +124,15 @@ module _ {v : ℕ → ℕ → ℕ} {d : ℕ → ℕ} {D : List ℕ} where
       home : (0 < n → ⊥) → RowOf v d D tights ends (at sites n)
       home o = let z : n ≡ 0 = omega arith in rw (z, g .queue .home) (rows s l)
 
-  module _ {s w k : ℕ} {sites streets nexts : List ℕ} {marks : List Bool} {i : ℕ} {tights : List ℕ} {r e y : ℕ} (row : Row v d D tights r e y (length D))
+  module _ {s w k : ℕ} {sites streets nexts : List ℕ} {flags : List Bool} {i : ℕ} {tights : List ℕ} {r e y : ℕ} (row : Row v d D tights r e y (length D))
       (here : at sites i ≡ y) where
     -- the streets behind the last one of the row need no look from the place of its site
-    pub growing-first : Grown v d D s w k sites streets nexts marks i → i < k → Growing v d D s w k sites streets nexts marks i (at tights (r + e) + 1)
+    pub growing-first : Grown v d D s w k sites streets nexts flags i → i < k → Growing v d D s w k sites streets nexts flags i (at tights (r + e) + 1)
     growing-first g l = growing-start g l (λ t m n o. row .above t n (omega arith) (rw here at o))
 
     -- nor those between two of the row
-    pub growing-next : {u : ℕ} (j : ℕ) → 0 < j → j ≤ e → u ≡ at tights (r + j) → Growing v d D s w k sites streets nexts marks i u
-        → Growing v d D s w k sites streets nexts marks i (at tights (r + (j - 1)) + 1)
+    pub growing-next : {u : ℕ} (j : ℕ) → 0 < j → j ≤ e → u ≡ at tights (r + j) → Growing v d D s w k sites streets nexts flags i u
+        → Growing v d D s w k sites streets nexts flags i (at tights (r + (j - 1)) + 1)
     growing-next j some le q g = growing-skip _ g (λ t m n o. row-gap row j some le t (omega arith) (omega (arith, q)) (rw here at o))
 
 -- numbers before a store stay

@@ -6,10 +6,8 @@ use mathlib.Core.Path.{_≡_}
 use mathlib.Core.List.{List}
 use lib.ListN.{length}
 use Rattle.counting.specs.Lists.{at, count}
+use Rattle.division.specs.Prices.{Over, Tight, Agree}
 use Rattle.division.specs.Shares.{divisionTotal}
-use Rattle.division.proofs.Dual.{Tight}
-use Rattle.division.proofs.Ties.{Agree}
-use Rattle.division.proofs.Chain.{Over}
 use Rattle.queues.specs.Queue.{Linked}
 
 -- the place p has the lowest site that s is tight for, of the first k places

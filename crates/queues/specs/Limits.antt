@@ -7,8 +7,8 @@ use mathlib.Core.Logic.{_≢_}
 use mathlib.Core.List.{List}
 use lib.ListN.{length}
 use Rattle.counting.specs.Lists.{at}
-use Rattle.division.proofs.Dual.{Tight}
 use Rattle.queues.specs.Queue.{Later}
+use Rattle.division.specs.Prices.{Tight}
 
 -- the street t may leave its site: it is tight for another one that has a share
 abbrev pub Leaver : (ℕ → ℕ → ℕ) → (ℕ → ℕ) → List ℕ → List ℕ → ℕ → Type 0

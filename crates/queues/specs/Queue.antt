@@ -9,7 +9,7 @@ use mathlib.Core.Logic.{_≢_}
 use mathlib.Core.List.{List}
 use lib.ListN.{length, getD}
 use Rattle.counting.specs.Lists.{at}
-use Rattle.division.proofs.Dual.{Tight}
+use Rattle.division.specs.Prices.{Tight}
 
 -- what the functions are lent and leave as it is: the streets' values in rows of width w, prices, and a division whose sites are below w
 pub record Scene (values prices D : List ℕ) (w : ℕ) : Type 0 where
@@ -26,30 +26,30 @@ abbrev pub Tells : Bool → Type 0 → Type 0
 Tells r fact = (r ≡ true → fact) × (r ≡ false → fact → ⊥)
 
 -- the buffers of the queue have a place for each site
-pub record Room (w : ℕ) (streets nexts sites : List ℕ) (marks : List Bool) : Type 0 where
+pub record Room (w : ℕ) (streets nexts sites : List ℕ) (flags : List Bool) : Type 0 where
   pub streets-fit : w ≤ length streets
   pub nexts-fit : w ≤ length nexts
   pub sites-fit : w ≤ length sites
-  pub marks-fit : w ≤ length marks
+  pub flags-fit : w ≤ length flags
 
 -- the flag of a site
 abbrev pub flag : List Bool → ℕ → Bool
-flag marks x = getD marks x false
+flag flags x = getD flags x false
 
 -- the sites of the first k places differ
 abbrev pub Differ : ℕ → List ℕ → Type 0
 Differ k sites = (i j : ℕ) → i < j → j < k → at sites i ≢ at sites j
 
 -- they are below w and differ, and the flags are theirs
-pub record Placed (w k : ℕ) (sites : List ℕ) (marks : List Bool) : Type 0 where
+pub record Placed (w k : ℕ) (sites : List ℕ) (flags : List Bool) : Type 0 where
   pub within : (j : ℕ) → j < k → at sites j < w
   pub differ : Differ k sites
-  pub each : (j : ℕ) → j < k → flag marks (at sites j) ≡ true
-  pub only : (x : ℕ) → flag marks x ≡ true → (j : ℕ) × (j < k) × (at sites j ≡ x)
+  pub each : (j : ℕ) → j < k → flag flags (at sites j) ≡ true
+  pub only : (x : ℕ) → flag flags x ≡ true → (j : ℕ) × (j < k) × (at sites j ≡ x)
 
 -- the first n flags are not set
 abbrev pub Clear : List Bool → ℕ → Type 0
-Clear marks n = (x : ℕ) → x < n → flag marks x ≡ false
+Clear flags n = (x : ℕ) → x < n → flag flags x ≡ false
 
 -- the street t is later than s and stands at the site x
 pub record Later (D : List ℕ) (s t x : ℕ) : Type 0 where
@@ -69,18 +69,18 @@ Linked v d D k sites streets nexts = (j : ℕ) → j < k → 0 < j → Tight v d
 
 -- no later street from u on whose site has no flag is tight for the site y
 abbrev pub Shut : (ℕ → ℕ → ℕ) → (ℕ → ℕ) → List ℕ → ℕ → List Bool → ℕ → ℕ → Type 0
-Shut v d D s marks y u = (t : ℕ) → u ≤ t → t < length D → s < t → flag marks (at D t) ≡ false → Tight v d D t y → ⊥
+Shut v d D s flags y u = (t : ℕ) → u ≤ t → t < length D → s < t → flag flags (at D t) ≡ false → Tight v d D t y → ⊥
 
 -- a queue of k places, of which the first i have been looked at with all streets
-pub record Grown (v : ℕ → ℕ → ℕ) (d : ℕ → ℕ) (D : List ℕ) (s w k : ℕ) (sites streets nexts : List ℕ) (marks : List Bool) (i : ℕ) : Type 0 where
+pub record Grown (v : ℕ → ℕ → ℕ) (d : ℕ → ℕ) (D : List ℕ) (s w k : ℕ) (sites streets nexts : List ℕ) (flags : List Bool) (i : ℕ) : Type 0 where
   pub some : 0 < k
-  pub placed : Placed w k sites marks
+  pub placed : Placed w k sites flags
   pub queue : Queue D s k sites streets nexts
   pub linked : Linked v d D k sites streets nexts
-  pub done : (j : ℕ) → j < i → Shut v d D s marks (at sites j) 0
+  pub done : (j : ℕ) → j < i → Shut v d D s flags (at sites j) 0
 
 -- and of which the place i has been looked at with the streets from u on
-pub record Growing (v : ℕ → ℕ → ℕ) (d : ℕ → ℕ) (D : List ℕ) (s w k : ℕ) (sites streets nexts : List ℕ) (marks : List Bool) (i u : ℕ) : Type 0 where
-  pub grown : Grown v d D s w k sites streets nexts marks i
+pub record Growing (v : ℕ → ℕ → ℕ) (d : ℕ → ℕ) (D : List ℕ) (s w k : ℕ) (sites streets nexts : List ℕ) (flags : List Bool) (i u : ℕ) : Type 0 where
+  pub grown : Grown v d D s w k sites streets nexts flags i
   pub place : i < k
-  pub here : Shut v d D s marks (at sites i) u
+  pub here : Shut v d D s flags (at sites i) u

@@ -7,7 +7,7 @@ use mathlib.Core.Path.{_≡_}
 use mathlib.Core.List.{List}
 use lib.ListN.{length}
 use Rattle.counting.specs.Lists.{at}
-use Rattle.division.proofs.Dual.{Tight}
+use Rattle.division.specs.Prices.{Tight}
 
 -- the row of the site y, from the index r: a 0, and then e streets before u, between which and after which no street before u is tight for y
 pub record Row (v : ℕ → ℕ → ℕ) (d : ℕ → ℕ) (D tights : List ℕ) (r e y u : ℕ) : Type 0 where

@@ -7,9 +7,9 @@ ghost use Prim.Native.Nat.{ℕ, _+_, _≤_, _<_};
 ghost use lib.ListN.{length};
 ghost use Rattle.counting.specs.Lists.{at, cell};
 ghost use Rattle.counting.specs.Buffers.{Mapped};
-ghost use Rattle.division.proofs.Dual.{Tight};
 ghost use Rattle.queues.specs.Queue.{Scene};
 ghost use Rattle.queues.specs.Limits.{Leaver, Limits, Raised, LastAt};
+ghost use Rattle.division.specs.Prices.{Tight};
 
 // Every limit is n.
 pub fn fill(limits: &mut [u16], n: u16)

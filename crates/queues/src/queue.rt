@@ -4,10 +4,9 @@ ghost use mathlib.Core.Path.{_≡_};
 ghost use Prim.Native.Nat.{ℕ, _+_, _<_};
 ghost use lib.ListN.{length};
 ghost use Rattle.counting.specs.Lists.{at, cell};
-ghost use Rattle.division.proofs.Dual.{Tight};
-ghost use Rattle.division.proofs.Ties.{Agree};
 ghost use Rattle.queues.specs.Queue.{Scene, Tells, Room, Clear, Placed, Grown, Growing};
 ghost use Rattle.queues.specs.Tights.{Rowed, Rows};
+ghost use Rattle.division.specs.Prices.{Tight, Agree};
 
 // Whether a street is tight for a site: its move there neither gains nor loses, after prices.
 pub fn tight(values: &[u32], prices: &[u32], w: usize, division: &[u8], t: usize, y: usize) -> bool
@@ -52,28 +51,28 @@ fn join(
     streets: &mut [u16],
     nexts: &mut [u8],
     sites: &mut [u8],
-    marks: &mut [bool],
+    flags: &mut [bool],
 ) -> usize
     requires { ⌜ Scene (now values) (now prices) (now division) w ⌝ }
-    requires { ⌜ Room w (now streets) (now nexts) (now sites) (now marks) ⌝ }
-    requires { ⌜ Placed w count (now sites) (now marks) ⌝ }
+    requires { ⌜ Room w (now streets) (now nexts) (now sites) (now flags) ⌝ }
+    requires { ⌜ Placed w count (now sites) (now flags) ⌝ }
     requires { ⌜ (i < count) × (t < length (now division)) ⌝ }
     ensures { λ r. ⌜ ((s : ℕ) → s < t
         → Growing (cell (now (values .entry)) w) (at (now (prices .entry))) (now (division .entry)) s w count
-        (now (sites .entry)) (now (streets .entry)) (now (nexts .entry)) (now (marks .entry)) i (t + 1)
+        (now (sites .entry)) (now (streets .entry)) (now (nexts .entry)) (now (flags .entry)) i (t + 1)
         → Growing (cell (now (values .entry)) w) (at (now (prices .entry))) (now (division .entry)) s w r
-        (now (sites .exit)) (now (streets .exit)) (now (nexts .exit)) (now (marks .exit)) i t) ⌝ }
+        (now (sites .exit)) (now (streets .exit)) (now (nexts .exit)) (now (flags .exit)) i t) ⌝ }
     ensures { λ _. ⌜ Agree (now (sites .entry)) (now (sites .exit)) count ⌝ }
 {
     let x = division[t] as usize;
-    if marks[x] {
+    if flags[x] {
         return count;
     }
     let y = sites[i] as usize;
     if !tight(values, prices, w, division, t, y) {
         return count;
     }
-    marks[x] = true;
+    flags[x] = true;
     streets[count] = t as u16;
     nexts[count] = i as u8;
     sites[count] = x as u8;
@@ -94,16 +93,16 @@ fn scan(
     streets: &mut [u16],
     nexts: &mut [u8],
     sites: &mut [u8],
-    marks: &mut [bool],
+    flags: &mut [bool],
 ) -> usize
     requires { ⌜ Scene (now values) (now prices) (now division) w ⌝ }
-    requires { ⌜ Room w (now streets) (now nexts) (now sites) (now marks) ⌝ }
+    requires { ⌜ Room w (now streets) (now nexts) (now sites) (now flags) ⌝ }
     requires { ⌜ (i < count) × (s < length (now division)) ⌝ }
     requires { ⌜ Rows w (length (now division)) (now tights) (now ends) × Rowed (cell (now values) w) (at (now prices)) (now division) (now tights) (now ends) ⌝ }
-    requires { ⌜ Grown (cell (now values) w) (at (now prices)) (now division) s w count (now sites) (now streets) (now nexts) (now marks) i ⌝ }
+    requires { ⌜ Grown (cell (now values) w) (at (now prices)) (now division) s w count (now sites) (now streets) (now nexts) (now flags) i ⌝ }
     ensures { λ r. ⌜ i < r ⌝ }
     ensures { λ r. ⌜ Grown (cell (now (values .entry)) w) (at (now (prices .entry))) (now (division .entry)) s w r
-        (now (sites .exit)) (now (streets .exit)) (now (nexts .exit)) (now (marks .exit)) (i + 1) ⌝ }
+        (now (sites .exit)) (now (streets .exit)) (now (nexts .exit)) (now (flags .exit)) (i + 1) ⌝ }
 {
     let y = sites[i] as usize;
     let row = y * (division.len() + 1);
@@ -122,7 +121,7 @@ fn scan(
             streets,
             nexts,
             sites,
-            marks,
+            flags,
         );
         j = j - 1;
         t = tights[row + j] as usize;
@@ -131,24 +130,24 @@ fn scan(
 }
 
 // No flag is set.
-fn clear(marks: &mut [bool])
-    ensures { λ _. ⌜ Clear (now (marks .exit)) (length (now (marks .exit))) ⌝ }
+fn clear(flags: &mut [bool])
+    ensures { λ _. ⌜ Clear (now (flags .exit)) (length (now (flags .exit))) ⌝ }
 {
-    for x in 0..marks.len() {
-        marks[x] = false;
+    for x in 0..flags.len() {
+        flags[x] = false;
     }
 }
 
 // The queue has one place, the site of s.
-fn start(division: &[u8], s: usize, sites: &mut [u8], marks: &mut [bool])
-    requires { ⌜ (s < length (now division)) × (at (now division) s < length (now marks)) × (0 < length (now sites)) ⌝ }
+fn start(division: &[u8], s: usize, sites: &mut [u8], flags: &mut [bool])
+    requires { ⌜ (s < length (now division)) × (at (now division) s < length (now flags)) × (0 < length (now sites)) ⌝ }
     ensures { λ _. ⌜ (at (now (sites .exit)) 0 ≡ at (now (division .entry)) s)
-        × ((w : ℕ) → at (now (division .entry)) s < w → Placed w 1 (now (sites .exit)) (now (marks .exit))) ⌝ }
+        × ((w : ℕ) → at (now (division .entry)) s < w → Placed w 1 (now (sites .exit)) (now (flags .exit))) ⌝ }
 {
-    clear(marks);
+    clear(flags);
     let a = division[s];
     sites[0] = a;
-    marks[a as usize] = true;
+    flags[a as usize] = true;
 }
 
 // The whole queue of the street s: how many places it has.
@@ -163,16 +162,16 @@ pub fn grow(
     streets: &mut [u16],
     nexts: &mut [u8],
     sites: &mut [u8],
-    marks: &mut [bool],
+    flags: &mut [bool],
 ) -> usize
     requires { ⌜ Scene (now values) (now prices) (now division) w ⌝ }
-    requires { ⌜ Room w (now streets) (now nexts) (now sites) (now marks) ⌝ }
+    requires { ⌜ Room w (now streets) (now nexts) (now sites) (now flags) ⌝ }
     requires { ⌜ s < length (now division) ⌝ }
     requires { ⌜ Rows w (length (now division)) (now tights) (now ends) × Rowed (cell (now values) w) (at (now prices)) (now division) (now tights) (now ends) ⌝ }
     ensures { λ r. ⌜ Grown (cell (now (values .entry)) w) (at (now (prices .entry))) (now (division .entry)) s w r
-        (now (sites .exit)) (now (streets .exit)) (now (nexts .exit)) (now (marks .exit)) r ⌝ }
+        (now (sites .exit)) (now (streets .exit)) (now (nexts .exit)) (now (flags .exit)) r ⌝ }
 {
-    start(division, s, sites, marks);
+    start(division, s, sites, flags);
     let mut count = 1;
     let mut i = 0;
     while i < count {
@@ -189,7 +188,7 @@ pub fn grow(
             streets,
             nexts,
             sites,
-            marks,
+            flags,
         );
         i = i + 1;
     }

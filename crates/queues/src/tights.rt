@@ -4,9 +4,9 @@ ghost use mathlib.Core.Path.{_≡_};
 ghost use Prim.Native.Nat.{_+_, _<_};
 ghost use lib.ListN.{length};
 ghost use Rattle.counting.specs.Lists.{at, cell};
-ghost use Rattle.division.proofs.Ties.{Agree};
 ghost use Rattle.queues.specs.Queue.{Scene};
 ghost use Rattle.queues.specs.Tights.{Row, Listed, Rows};
+ghost use Rattle.division.specs.Prices.{Agree};
 
 // The street t joins the row of the site y where it is tight for y: how many streets the row has then.
 fn push(

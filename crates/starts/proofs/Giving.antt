@@ -15,9 +15,9 @@ use Rattle.counting.specs.Words.{one}
 use Rattle.counting.specs.Lists.{at, count}
 use Rattle.counting.proofs.Sums.{at-past}
 use Rattle.counting.proofs.Tables.{row-within}
-use Rattle.division.specs.Shares.{share, less, InShares}
-use Rattle.division.specs.Town.{Town, tail}
-use Rattle.division.proofs.Counts.{shareSum, share-less, dot-less, share-none, share-some, count-suc}
+use Rattle.division.specs.Shares.{share, less, InShares, shareSum}
+use Rattle.division.specs.Problem.{Problem, tail}
+use Rattle.division.proofs.Counts.{share-less, dot-less, share-none, share-some, count-suc}
 use Rattle.division.proofs.Towns.{share-tail}
 use Rattle.starts.specs.Given.{Seen}
 
@@ -45,7 +45,7 @@ seen-end left a site most b l m h s =
 
 -- ---- the streets one by one
 -- where a street's row of values ends
-pub row-ends : (values shares : List ℕ) (n s : ℕ) → Town values shares n → s < n
+pub row-ends : (values shares : List ℕ) (n s : ℕ) → Problem values shares n → s < n
     → (s * length shares + length shares ≤ length values) × (length values ≤ 26000)
 row-ends values shares n s t l = (
   omega (arith, row-within n (length shares) s l, t .size),

@@ -13,7 +13,7 @@ use borrow.Author.Tests.{eq-eqb, ne-eqb}
 use Rattle.counting.specs.Lists.{at}
 use Rattle.counting.proofs.Sums.{listOf-length, listOf-at, take-next}
 use Rattle.division.specs.Shares.{shareAmong, sharesOf}
-use Rattle.division.specs.Town.{tail}
+use Rattle.division.specs.Problem.{tail}
 use Rattle.starts.specs.Given.{Unshared}
 
 -- two tests with the same outcome may be tried in either order

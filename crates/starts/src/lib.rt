@@ -3,9 +3,8 @@ ghost use mathlib.Core.Path.{_≡_};
 ghost use Prim.Native.Nat.{ℕ, _+_, _<_};
 ghost use lib.ListN.{length};
 ghost use Rattle.counting.specs.Lists.{at};
-ghost use Rattle.division.specs.Shares.{InShares, sharesOf};
-ghost use Rattle.division.specs.Town.{Town, tail};
-ghost use Rattle.division.proofs.Counts.{shareSum};
+ghost use Rattle.division.specs.Shares.{InShares, sharesOf, shareSum};
+ghost use Rattle.division.specs.Problem.{Problem, tail};
 ghost use Rattle.starts.specs.Given.{Unshared, Seen};
 
 // Each listed site gets the share q; m is the number of sites.
@@ -68,7 +67,7 @@ fn best_left(row: &[u32], left: &[u16]) -> usize
 
 // Each street in turn goes to the site that it gives most among those that have a share left, so that few streets are left to move.
 pub fn begin(values: &[u32], shares: &[u16], left: &mut [u16], division: &mut [u8])
-    requires { ⌜ Town (now values) (now shares) (length (now division)) ⌝ }
+    requires { ⌜ Problem (now values) (now shares) (length (now division)) ⌝ }
     requires { ⌜ (shareSum (tail (now shares)) ≡ length (now division)) × (length (now left) ≡ length (now shares)) ⌝ }
     ensures { λ _. ⌜ InShares (now (division .exit)) (tail (now (shares .entry))) ⌝ }
 {

@@ -18,7 +18,7 @@ use Rattle.survey.specs.Rows.{rowOf, rankedPart, placeIn, placeOf}
 use Rattle.survey.specs.Refusals.{mostStreets, mostSites}
 use Rattle.survey.specs.Accepted.{SoundRow, Accepted}
 use Rattle.survey.specs.BySite.{Ranked, Room, Unread, Entered}
-use Rattle.survey.proofs.Laws.{ranked-stop, ranked-more, ranked-all, row-part}
+use Rattle.survey.proofs.RowLoops.{ranked-stop, ranked-more, ranked-all, row-part}
 use Rattle.survey.proofs.Places.{place-none, place-new, place-old}
 
 -- an accepted survey's rows rank the sites

@@ -1,4 +1,4 @@
-pub mod Laws
+pub mod RowLoops
 pub mod Sound
 pub mod Places
 pub mod Lists

@@ -15,12 +15,13 @@ use borrow.Author.Tests.{ltb-true, ltb-false, eqb-true, eq-eqb}
 use Rattle.counting.specs.Lists.{at}
 use Rattle.counting.proofs.Refusals.{or-right, or-false}
 use Rattle.counting.proofs.Membership.{or-cases}
+use Rattle.division.specs.Prices.{Priced, Tight, Agree}
 use Rattle.division.specs.Shares.{share, InShares, divisionTotal}
 use Rattle.division.specs.Divide.{divide}
-use Rattle.division.specs.Town.{tail, Town}
+use Rattle.division.specs.Problem.{tail, Problem}
 use Rattle.division.proofs.Counts.{by-order}
-use Rattle.division.proofs.Dual.{Priced, Tight, Cut, tight, priced-same}
-use Rattle.division.proofs.Ties.{Agree, first-start, first-step, first-best}
+use Rattle.division.proofs.Dual.{Cut, tight, priced-same}
+use Rattle.division.proofs.Ties.{first-start, first-step, first-best}
 use Rattle.division.proofs.Towns.{share-tail, sited}
 use Rattle.queues.specs.Queue.{Scene, flag, Later, Grown}
 use Rattle.queues.specs.Limits.{Leaver, Limits, Raised}
@@ -29,11 +30,11 @@ use Rattle.queues.specs.Tights.{Listed, Rowed}
 use Rattle.ties.specs.Standing.{Prices, Aim, Standing}
 use Rattle.queues.proofs.Growth.{cut-of}
 use Rattle.queues.proofs.Listing.{row-back}
-use Rattle.queues.proofs.Homeward.{swapped}
+use Rattle.queues.proofs.PathBack.{swapped}
 use Rattle.queues.proofs.Limiting.{limits-fewer, limits-move, limits-home}
 
 -- a division in the shares of a town has its sites below the width
-pub scene-of : {values shares : List ℕ} (prices D : List ℕ) → Town values shares (length D) → Prices prices (length shares) → InShares D (tail shares)
+pub scene-of : {values shares : List ℕ} (prices D : List ℕ) → Problem values shares (length D) → Prices prices (length shares) → InShares D (tail shares)
     → Scene values prices D (length shares)
 scene-of {values} {shares} prices D town low i =
     record {
@@ -47,12 +48,12 @@ scene-of {values} {shares} prices D town low i =
     }
 
 -- the sites where its streets stand have shares, and so their rows
-pub rowed-of : {values shares : List ℕ} {v : ℕ → ℕ → ℕ} {d : ℕ → ℕ} (tights ends D : List ℕ) → Town values shares (length D)
+pub rowed-of : {values shares : List ℕ} {v : ℕ → ℕ → ℕ} {d : ℕ → ℕ} (tights ends D : List ℕ) → Problem values shares (length D)
     → InShares D (tail shares) → Listed v d D shares (length shares) tights ends → Rowed v d D tights ends
 rowed-of {values} {shares} tights ends D town i rows t l = let e = sited shares D (town .nobody) i t l in rows (at D t) (e .0) (e .1)
 
 -- a town of as many streets is the same
-pub town-same : {values shares : List ℕ} {n : ℕ} (k : ℕ) → k ≡ n → Town values shares n → Town values shares k
+pub town-same : {values shares : List ℕ} {n : ℕ} (k : ℕ) → k ≡ n → Problem values shares n → Problem values shares k
 town-same k e town = rw e town
 
 -- before the first street nothing is settled
@@ -97,8 +98,8 @@ module _ {v : ℕ → ℕ → ℕ} {d : ℕ → ℕ} {c D : List ℕ} {s : ℕ} 
         }
 
   -- the street s goes to the lowest site of its queue
-  module _ {w k : ℕ} {sites streets nexts : List ℕ} {marks : List Bool} {p : ℕ} {E : List ℕ} (l : s < length D)
-      (g : Grown v d D s w k sites streets nexts marks k) (lowest : Lowest v d D s k sites p) (turned : Turned D E s p sites streets nexts) where
+  module _ {w k : ℕ} {sites streets nexts : List ℕ} {flags : List Bool} {p : ℕ} {E : List ℕ} (l : s < length D)
+      (g : Grown v d D s w k sites streets nexts flags k) (lowest : Lowest v d D s k sites p) (turned : Turned D E s p sites streets nexts) where
     same-turned : InShares E c
     same-turned z = turned .counts z ∙ h .within z
 
@@ -116,7 +117,7 @@ module _ {v : ℕ → ℕ → ℕ} {d : ℕ → ℕ} {c D : List ℕ} {s : ℕ} 
 
     pub standing-turned : Standing v d c E (s + 1)
     standing-turned =
-        standing-step E (turned .long) same-turned total-turned (flag marks) (cut-of c (h .priced) g) (turned .before)
+        standing-step E (turned .long) same-turned total-turned (flag flags) (cut-of c (h .priced) g) (turned .before)
         (λ b y held t. let (j, m, e) = g .placed .only b y in omega (arith, turned .moved, lowest .low j m (rw e t), e)) l
 
 -- the sites that can be left, and the own site of the street s

@@ -5,9 +5,8 @@ use mathlib.Core.Path.{_≡_}
 use mathlib.Core.List.{List}
 use lib.ListN.{length}
 use Rattle.counting.specs.Lists.{at}
+use Rattle.division.specs.Prices.{Priced, Tight, FirstTo}
 use Rattle.division.specs.Shares.{InShares}
-use Rattle.division.proofs.Dual.{Priced, Tight}
-use Rattle.division.proofs.Ties.{FirstTo}
 use Rattle.queues.specs.Limits.{LastAt}
 
 -- a price for each of w sites, at most 1,000,000,000

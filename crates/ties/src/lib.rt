@@ -4,10 +4,10 @@ ghost use mathlib.Core.Bool.{true, false};
 ghost use Prim.Native.Nat.{ℕ, _+_, _≤_, _<_};
 ghost use lib.ListN.{length};
 ghost use Rattle.counting.specs.Lists.{at, cell};
+ghost use Rattle.division.specs.Prices.{Priced, Tight};
 ghost use Rattle.division.specs.Shares.{InShares};
 ghost use Rattle.division.specs.Divide.{divide};
-ghost use Rattle.division.specs.Town.{tail, Town};
-ghost use Rattle.division.proofs.Dual.{Priced, Tight};
+ghost use Rattle.division.specs.Problem.{tail, Problem};
 ghost use Rattle.queues.specs.Queue.{Scene, Room};
 ghost use Rattle.queues.specs.Limits.{Leaver, Limits, LastAt};
 ghost use Rattle.ties.specs.Standing.{Aim, Prices, Standing};
@@ -77,12 +77,12 @@ fn settle_far(
     streets: &mut [u16],
     nexts: &mut [u8],
     sites: &mut [u8],
-    marks: &mut [bool],
+    flags: &mut [bool],
     limits: &mut [u16],
 )
-    requires { ⌜ Town (now values) (now shares) (length (now division)) ⌝ }
+    requires { ⌜ Problem (now values) (now shares) (length (now division)) ⌝ }
     requires { ⌜ Prices (now prices) (length (now shares)) ⌝ }
-    requires { ⌜ Room (length (now shares)) (now streets) (now nexts) (now sites) (now marks) ⌝ }
+    requires { ⌜ Room (length (now shares)) (now streets) (now nexts) (now sites) (now flags) ⌝ }
     requires { ⌜ s < length (now division) ⌝ }
     requires { ⌜ Rows (length (now shares)) (length (now division)) (now tights) (now ends)
         × Listed (cell (now values) (length (now shares))) (at (now prices)) (now division) (now shares) (length (now shares)) (now tights) (now ends) ⌝ }
@@ -108,7 +108,7 @@ fn settle_far(
         streets,
         nexts,
         sites,
-        marks,
+        flags,
     );
     let place = queues::home::lowest(values, prices, w, division, s, sites, count);
     queues::home::turn(division, s, place, streets, nexts, sites, limits);
@@ -126,12 +126,12 @@ fn settle_street(
     streets: &mut [u16],
     nexts: &mut [u8],
     sites: &mut [u8],
-    marks: &mut [bool],
+    flags: &mut [bool],
     limits: &mut [u16],
 )
-    requires { ⌜ Town (now values) (now shares) (length (now division)) ⌝ }
+    requires { ⌜ Problem (now values) (now shares) (length (now division)) ⌝ }
     requires { ⌜ Prices (now prices) (length (now shares)) ⌝ }
-    requires { ⌜ Room (length (now shares)) (now streets) (now nexts) (now sites) (now marks) ⌝ }
+    requires { ⌜ Room (length (now shares)) (now streets) (now nexts) (now sites) (now flags) ⌝ }
     requires { ⌜ s < length (now division) ⌝ }
     requires { ⌜ Rows (length (now shares)) (length (now division)) (now tights) (now ends)
         × Listed (cell (now values) (length (now shares))) (at (now prices)) (now division) (now shares) (length (now shares)) (now tights) (now ends) ⌝ }
@@ -169,7 +169,7 @@ fn settle_street(
         streets,
         nexts,
         sites,
-        marks,
+        flags,
         limits,
     );
 }
@@ -185,12 +185,12 @@ fn settle_streets(
     streets: &mut [u16],
     nexts: &mut [u8],
     sites: &mut [u8],
-    marks: &mut [bool],
+    flags: &mut [bool],
     limits: &mut [u16],
 )
-    requires { ⌜ Town (now values) (now shares) (length (now division)) ⌝ }
+    requires { ⌜ Problem (now values) (now shares) (length (now division)) ⌝ }
     requires { ⌜ Prices (now prices) (length (now shares)) ⌝ }
-    requires { ⌜ Room (length (now shares)) (now streets) (now nexts) (now sites) (now marks) ⌝ }
+    requires { ⌜ Room (length (now shares)) (now streets) (now nexts) (now sites) (now flags) ⌝ }
     requires { ⌜ Rows (length (now shares)) (length (now division)) (now tights) (now ends)
         × Listed (cell (now values) (length (now shares))) (at (now prices)) (now division) (now shares) (length (now shares)) (now tights) (now ends) ⌝ }
     requires { ⌜ Standing (cell (now values) (length (now shares))) (at (now prices)) (tail (now shares)) (now division) 0 ⌝ }
@@ -211,7 +211,7 @@ fn settle_streets(
             streets,
             nexts,
             sites,
-            marks,
+            flags,
             limits,
         );
     }
@@ -226,13 +226,13 @@ pub fn settle(
     streets: &mut [u16],
     nexts: &mut [u8],
     sites: &mut [u8],
-    marks: &mut [bool],
+    flags: &mut [bool],
 )
-    requires { ⌜ Town (now values) (now shares) (length (now division)) ⌝ }
+    requires { ⌜ Problem (now values) (now shares) (length (now division)) ⌝ }
     requires { ⌜ InShares (now division) (tail (now shares)) ⌝ }
     requires { ⌜ Prices (now prices) (length (now shares)) ⌝ }
     requires { ⌜ Priced (cell (now values) (length (now shares))) (at (now prices)) (tail (now shares)) (now division) ⌝ }
-    requires { ⌜ Room (length (now shares)) (now streets) (now nexts) (now sites) (now marks) ⌝ }
+    requires { ⌜ Room (length (now shares)) (now streets) (now nexts) (now sites) (now flags) ⌝ }
     ensures { λ _. ⌜ now (division .exit)
         ≡ divide (cell (now (values .entry)) (length (now (shares .entry)))) (length (now (division .entry))) (tail (now (shares .entry))) ⌝ }
 {
@@ -251,7 +251,7 @@ pub fn settle(
         streets,
         nexts,
         sites,
-        marks,
+        flags,
         &mut limits,
     );
 }

@@ -13,7 +13,7 @@ use Rattle.survey.specs.Accepted.{Accepted}
 use Rattle.survey.specs.BySite.{Room, Unread, Entered}
 use Rattle.counting.proofs.Tables.{row-within}
 use Rattle.counting.proofs.Parts.{part, put, part-length, part-blank, put-length, put-before, put-in, put-behind}
-use Rattle.survey.proofs.Laws.{row-part}
+use Rattle.survey.proofs.RowLoops.{row-part}
 use Rattle.survey.proofs.Places.{score-none}
 use Rattle.survey.proofs.BySite.{ranked, row-length}
 use Rattle.values.specs.Table.{valueIn, Blank, Valued}

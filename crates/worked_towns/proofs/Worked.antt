@@ -4,7 +4,7 @@ use mathlib.Core.Path.{_≡_, refl}
 use mathlib.Core.Bool.{true}
 use Rattle.counting.specs.Words.{_when_, _unless_, _orElse_, firstOf}
 use Rattle.counting.specs.Lists.{count}
-use Rattle.counting.specs.Choice.{seek, greatest}
+use Rattle.counting.specs.Greatest.{seek, greatest}
 use Rattle.counting.specs.Buffers.{joined, laid}
 use Rattle.division.specs.Shares.{share, less, divisionTotal}
 use Rattle.division.specs.Divide.{divide}

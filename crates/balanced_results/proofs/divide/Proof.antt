@@ -1,6 +1,6 @@
 -- `balanced_results::divide` meets its contract. Assumes nothing.
 use borrow.Author.Needs.{needs}
-use Rattle.balanced_results.proofs.Divided.{shareable-of, as-surveyed}
+use Rattle.balanced_results.proofs.ListShares.{shareable-of, as-surveyed}
 use Rattle.survey.specs.Rows.{value}
 use native.Mathlib.Omega.{arith}
 use mathlib.Core.Path.{sym}

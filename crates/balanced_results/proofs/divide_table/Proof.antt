@@ -6,10 +6,10 @@ use lib.ListN.{length}
 use Prim.Native.Nat.{_+_}
 use native.Mathlib.Nat.{div-le-self}
 use Rattle.counting.specs.Lists.{cell}
-use Rattle.division.proofs.Counts.{shareSum}
-use Rattle.balanced_results.proofs.Divided.{unshared, town, for-all, given}
+use Rattle.balanced_results.proofs.ListShares.{unshared, town, for-all, given}
 use Rattle.balanced_results.proofs.divide_table.Statement.{statement}
 use Rattle.balanced_results.proofs.divide_table.Tie as tie
+use Rattle.division.specs.Shares.{shareSum}
 
 cast-share-out : tie.Need-cast-share-out
 cast-share-out c =

@@ -8,8 +8,8 @@ use Rattle.counting.specs.Lists.{at}
 use Rattle.values.specs.Table.{valueIn}
 use Rattle.counting.proofs.Parts.{front-length, back-is, back-room, back-size}
 use mathlib.Core.List.{List}
-use Rattle.counting.specs.Choice.{greatest}
-use Rattle.counting.proofs.Choice.{chosen-le}
+use Rattle.counting.specs.Greatest.{greatest}
+use Rattle.counting.proofs.Greatest.{chosen-le}
 use Rattle.free_rounds.specs.Held.{unflagged}
 use Rattle.balanced_rounds.proofs.Rounding.{small-of, worths-small, chosen-worth}
 use Rattle.balanced_rounds.proofs.choose.Statement.{statement}
@@ -43,14 +43,14 @@ best-site-requires : tie.Need-best-site-requires
 best-site-requires c κs =
     let a = c .before .before .before .before .before .before .before .before .args in
     let p = c .before .before .before .before .before .before .before .before .pre in
-    (back-size (a .m + 1) (c .before .before .fill-worths .last .1 .1 .1 .1 .1 .1 .0) _ (omega (arith, c .before .before .fill-worths .kept .1 .1 .1 .1 .1 .1 .0, front-length (a .m + 1) 65 (omega (arith, p .0 .0 .few-sites)))), p .1 .0, p .0 .0 .few-sites, small-of _ _ 39600000 (back-is (a .m + 1) (c .before .before .fill-worths .last .1 .1 .1 .1 .1 .1 .0) _ (omega (arith, c .before .before .fill-worths .kept .1 .1 .1 .1 .1 .1 .0, front-length (a .m + 1) 65 (omega (arith, p .0 .0 .few-sites))))) (worths-small (valueIn (a .values .now) (a .m)) (length (a .division .now)) (a .m) (a .q) (a .orders .now) (a .division .now) (c .before .before .fill-worths .last .1 .1 .1 .1 .1 .1 .0) (a .marks .now) (omega (arith, c .before .before .fill-worths .kept .1 .1 .1 .1 .1 .1 .0, front-length (a .m + 1) 65 (omega (arith, p .0 .0 .few-sites)))) (λ s x. p .0 .0 .small (s * (a .m + 1) + x)) (p .1 .1) (c .before .before .fill-worths .ensures)))
+    (back-size (a .m + 1) (c .before .before .fill-worths .last .1 .1 .1 .1 .1 .1 .0) _ (omega (arith, c .before .before .fill-worths .kept .1 .1 .1 .1 .1 .1 .0, front-length (a .m + 1) 65 (omega (arith, p .0 .0 .few-sites)))), p .1 .0, p .0 .0 .few-sites, small-of _ _ 39600000 (back-is (a .m + 1) (c .before .before .fill-worths .last .1 .1 .1 .1 .1 .1 .0) _ (omega (arith, c .before .before .fill-worths .kept .1 .1 .1 .1 .1 .1 .0, front-length (a .m + 1) 65 (omega (arith, p .0 .0 .few-sites))))) (worths-small (valueIn (a .values .now) (a .m)) (length (a .division .now)) (a .m) (a .q) (a .orders .now) (a .division .now) (c .before .before .fill-worths .last .1 .1 .1 .1 .1 .1 .0) (a .flags .now) (omega (arith, c .before .before .fill-worths .kept .1 .1 .1 .1 .1 .1 .0, front-length (a .m + 1) 65 (omega (arith, p .0 .0 .few-sites)))) (λ s x. p .0 .0 .small (s * (a .m + 1) + x)) (p .1 .1) (c .before .before .fill-worths .ensures)))
 
 returns : tie.Need-returns
 returns c =
     let a = c .before .before .before .before .before .before .before .before .before .args in
     let p = c .before .before .before .before .before .before .before .before .before .pre in
-    let e = c .best-site .ensures ∙ ap (λ (W : List ℕ). greatest (unflagged (a .marks .now)) (at W) (a .m)) (back-is (a .m + 1) (c .before .before .before .fill-worths .last .1 .1 .1 .1 .1 .1 .0) _ (omega (arith, c .before .before .before .fill-worths .kept .1 .1 .1 .1 .1 .1 .0, front-length (a .m + 1) 65 (omega (arith, p .0 .0 .few-sites))))) in
-    (chosen-le _ _ (a .m) _ e, λ key o. e ∙ chosen-worth (valueIn (a .values .now) (a .m)) key (length (a .division .now)) (a .m) (a .q) (a .orders .now) (a .division .now) (c .before .before .before .fill-worths .last .1 .1 .1 .1 .1 .1 .0) (a .marks .now) o refl (c .before .before .before .fill-worths .ensures))
+    let e = c .best-site .ensures ∙ ap (λ (W : List ℕ). greatest (unflagged (a .flags .now)) (at W) (a .m)) (back-is (a .m + 1) (c .before .before .before .fill-worths .last .1 .1 .1 .1 .1 .1 .0) _ (omega (arith, c .before .before .before .fill-worths .kept .1 .1 .1 .1 .1 .1 .0, front-length (a .m + 1) 65 (omega (arith, p .0 .0 .few-sites))))) in
+    (chosen-le _ _ (a .m) _ e, λ key o. e ∙ chosen-worth (valueIn (a .values .now) (a .m)) key (length (a .division .now)) (a .m) (a .q) (a .orders .now) (a .division .now) (c .before .before .before .fill-worths .last .1 .1 .1 .1 .1 .1 .0) (a .flags .now) o refl (c .before .before .before .fill-worths .ensures))
 
 pub choose-spec : {M : Type 1} → statement M
 choose-spec =

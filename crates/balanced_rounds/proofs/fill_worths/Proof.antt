@@ -17,10 +17,10 @@ use Rattle.balanced_rounds.proofs.fill_worths.Statement.{statement}
 use Rattle.balanced_rounds.proofs.fill_worths.Tie as tie
 
 abbrev Inv-loop : tie.InvT-loop
-Inv-loop values orders division marks m q worths₀ a₀ a-end worths a = (a ≤ a-end) × (a-end ≡ length worths₀) × Mapped (λ b x. sum (λ s. valueIn values m s b) (picked (rowOf (length division) orders b) q division) unless getD marks b false) worths₀ worths a
+Inv-loop values orders division flags m q worths₀ a₀ a-end worths a = (a ≤ a-end) × (a-end ≡ length worths₀) × Mapped (λ b x. sum (λ s. valueIn values m s b) (picked (rowOf (length division) orders b) q division) unless getD flags b false) worths₀ worths a
 
 abbrev μ-loop : tie.MeasureT-loop
-μ-loop values orders division marks m q worths₀ a₀ a-end worths a = a-end - a
+μ-loop values orders division flags m q worths₀ a₀ a-end worths a = a-end - a
 
 loop-holds : tie.Need-loop-holds Inv-loop μ-loop
 loop-holds c = (search needs, refl, mapped-none _ _)

@@ -8,7 +8,7 @@ use Rattle.counting.specs.Lists.{sum}
 use Rattle.values.specs.Table.{valueIn}
 use mathlib.Core.List.{List}
 use Rattle.counting.proofs.Refusals.{unless-none, unless-is}
-use Rattle.survey.proofs.Laws.{row-part}
+use Rattle.survey.proofs.RowLoops.{row-part}
 use Rattle.survey.proofs.BySite.{table-small}
 use Rattle.balanced_rounds.specs.Lines.{picked}
 use Rattle.balanced_rounds.proofs.Rounding.{line-ends, line-of, line-falls}

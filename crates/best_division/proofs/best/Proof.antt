@@ -1,9 +1,9 @@
 -- `best_division::best` meets its contract. Assumes nothing.
 use borrow.Author.Needs.{needs}
-use Rattle.best_division.proofs.Lent.{back-bound, back-priced, same-town, given-back}
+use Rattle.best_division.proofs.PassBuffers.{back-bound, back-priced, same-town, given-back}
 use Rattle.counting.proofs.Parts.{front-length, back-room, back-size}
 use Rattle.counting.specs.Lists.{at, cell}
-use Rattle.division.specs.Town.{tail}
+use Rattle.division.specs.Problem.{tail}
 use native.Mathlib.Omega.{arith}
 use mathlib.Core.Path.{sym}
 use lib.ListN.{length}

@@ -1,6 +1,6 @@
 -- `best_division::improve` meets its contract. Assumes nothing.
 use borrow.Author.Needs.{needs}
-use Rattle.best_division.proofs.Lent.{areas, buffers}
+use Rattle.best_division.proofs.PassBuffers.{areas, buffers}
 use Rattle.counting.proofs.Parts.{front-length}
 use native.Mathlib.Omega.{arith}
 use mathlib.Core.Path.{sym}

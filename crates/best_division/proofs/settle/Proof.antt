@@ -1,6 +1,6 @@
 -- `best_division::settle` meets its contract. Assumes nothing.
 use borrow.Author.Needs.{needs}
-use Rattle.best_division.proofs.Lent.{room}
+use Rattle.best_division.proofs.PassBuffers.{room}
 use Rattle.best_division.proofs.settle.Statement.{statement}
 use Rattle.best_division.proofs.settle.Tie as tie
 

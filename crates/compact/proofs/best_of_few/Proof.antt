@@ -5,8 +5,8 @@ use lib.ListN.{length}
 use Rattle.counting.specs.Lists.{cell}
 use Rattle.division.specs.Shares.{divisionTotal}
 use Rattle.division.specs.Divide.{divide}
-use Rattle.division.specs.Town.{tail}
-use Rattle.best_division.proofs.Lent.{same-town}
+use Rattle.division.specs.Problem.{tail}
+use Rattle.best_division.proofs.PassBuffers.{same-town}
 use Rattle.compact.proofs.Compacted.{few-town, site-within, few-in, few-length, number-within, given-back, as-many}
 use borrow.Author.Needs.{needs}
 use Rattle.compact.proofs.best_of_few.Statement.{statement}

@@ -2,7 +2,7 @@
 use borrow.Author.Needs.{needs}
 use native.Mathlib.Nat.{div-le-self}
 use native.Mathlib.Omega.{arith}
-use Rattle.floors.proofs.Turns.{added-is}
+use Rattle.floors.proofs.FloorSteps.{added-is}
 use Rattle.floors.proofs.added.Statement.{statement}
 use Rattle.floors.proofs.added.Tie as tie
 

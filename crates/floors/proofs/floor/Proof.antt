@@ -7,7 +7,7 @@ use Rattle.counting.specs.Words.{sumOf}
 use Rattle.survey.specs.Rows.{scoreAt}
 use Rattle.balanced_plan.specs.Rounds.{evenShare}
 use Rattle.balanced_plan.specs.Floor.{added}
-use Rattle.floors.proofs.Turns.{sum-more, floor-end}
+use Rattle.floors.proofs.FloorSteps.{sum-more, floor-end}
 use Rattle.floors.proofs.floor.Statement.{statement}
 use Rattle.floors.proofs.floor.Tie as tie
 

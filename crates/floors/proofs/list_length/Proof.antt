@@ -3,7 +3,7 @@ use borrow.Author.Needs.{needs}
 use mathlib.Core.Path.{ap, _∙_}
 use lib.ListN.{length}
 use Rattle.survey.specs.Rows.{rankedPart}
-use Rattle.survey.proofs.Laws.{row-part}
+use Rattle.survey.proofs.RowLoops.{row-part}
 use Rattle.floors.proofs.list_length.Statement.{statement}
 use Rattle.floors.proofs.list_length.Tie as tie
 

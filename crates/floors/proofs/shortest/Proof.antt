@@ -5,7 +5,7 @@ use Prim.Native.Nat.{_-_, _≤_}
 use native.Mathlib.Omega.{arith}
 use Rattle.counting.proofs.Tables.{row-within}
 use Rattle.survey.specs.Rows.{shortest}
-use Rattle.floors.proofs.Turns.{shortest-next, shortest-end}
+use Rattle.floors.proofs.FloorSteps.{shortest-next, shortest-end}
 use Rattle.floors.proofs.shortest.Statement.{statement}
 use Rattle.floors.proofs.shortest.Tie as tie
 

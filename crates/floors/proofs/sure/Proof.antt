@@ -3,7 +3,7 @@ use borrow.Author.Needs.{needs}
 use Prim.Native.Nat.{_-_}
 use native.Mathlib.Omega.{arith}
 use Rattle.survey.specs.Rows.{scoreAt}
-use Rattle.floors.proofs.Turns.{ceil-most, sure-none, sure-score}
+use Rattle.floors.proofs.FloorSteps.{ceil-most, sure-none, sure-score}
 use Rattle.floors.proofs.sure.Statement.{statement}
 use Rattle.floors.proofs.sure.Tie as tie
 

@@ -1,6 +1,6 @@
 -- `hand_plans::street_score` meets its contract. Assumes nothing.
 use borrow.Author.Needs.{needs}
-use Rattle.survey.proofs.Laws.{row-part}
+use Rattle.survey.proofs.RowLoops.{row-part}
 use Rattle.survey.specs.Rows.{scoreOf}
 use Prim.Native.Nat.{ℕ}
 use mathlib.Core.List.{List}

@@ -4,7 +4,7 @@ use mathlib.Core.Path.{ap, _∙_}
 use mathlib.Core.List.{List}
 use Prim.Native.Nat.{ℕ}
 use Rattle.survey.specs.Rows.{placeOf}
-use Rattle.survey.proofs.Laws.{row-part}
+use Rattle.survey.proofs.RowLoops.{row-part}
 use Rattle.listing.proofs.place_of.Statement.{statement}
 use Rattle.listing.proofs.place_of.Tie as tie
 

@@ -6,21 +6,21 @@ use native.Mathlib.Omega.{arith}
 use lib.ListN.{length, take}
 use Rattle.counting.specs.Lists.{at, has}
 use Rattle.counting.specs.Words.{_when_, firstOf}
-use Rattle.counting.specs.Marks.{Marks}
-use Rattle.counting.proofs.Marking.{marks-none}
+use Rattle.counting.specs.Flags.{Flags}
+use Rattle.counting.proofs.Flagging.{flags-none}
 use Rattle.counting.proofs.Refusals.{loop, first-start, first-found, first-next}
-use Rattle.survey.proofs.Laws.{seen-more}
+use Rattle.survey.proofs.RowLoops.{seen-more}
 use Rattle.refusals.proofs.twice_refusal.Statement.{statement}
 use Rattle.refusals.proofs.twice_refusal.Tie as tie
 
 abbrev Inv-loop : tie.InvT-loop
-Inv-loop sites seen₀ j₀ j-end seen j = (j ≤ j-end) × (j-end ≡ length sites) × (firstOf j (λ i. 20 when has (at sites i) (take i sites)) ≡ 0) × Marks seen (take j sites)
+Inv-loop sites seen₀ j₀ j-end seen j = (j ≤ j-end) × (j-end ≡ length sites) × (firstOf j (λ i. 20 when has (at sites i) (take i sites)) ≡ 0) × Flags seen (take j sites)
 
 abbrev μ-loop : tie.MeasureT-loop
 μ-loop sites seen₀ j₀ j-end seen j = j-end - j
 
 loop-holds : tie.Need-loop-holds Inv-loop μ-loop
-loop-holds c = (search needs, refl, first-start _, marks-none)
+loop-holds c = (search needs, refl, first-start _, flags-none)
 
 cast-at : tie.Need-cast-at Inv-loop μ-loop
 cast-at c = omega (arith, c .shared-slice-known2 .given (c .before .before .loop .j))

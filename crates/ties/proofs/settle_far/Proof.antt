@@ -2,7 +2,7 @@
 use mathlib.Core.Path.{refl}
 use native.Mathlib.Omega.{arith}
 use Rattle.queues.proofs.Growth.{placed-fits}
-use Rattle.queues.proofs.Homeward.{way-home}
+use Rattle.queues.proofs.PathBack.{way-home}
 use Rattle.ties.proofs.Settled.{scene-of, rowed-of, listed-turned, limits-turned, standing-turned}
 use Rattle.ties.proofs.settle_far.Statement.{statement}
 use Rattle.ties.proofs.settle_far.Tie as tie

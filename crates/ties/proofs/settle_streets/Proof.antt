@@ -5,7 +5,7 @@ use Prim.Native.Nat.{_≤_, _-_}
 use native.Mathlib.Omega.{arith}
 use lib.ListN.{length}
 use Rattle.counting.specs.Lists.{at, cell}
-use Rattle.division.specs.Town.{tail}
+use Rattle.division.specs.Problem.{tail}
 use Rattle.queues.specs.Limits.{Leaver, Limits}
 use Rattle.ties.specs.Standing.{Standing}
 use Rattle.queues.specs.Tights.{Listed}
@@ -17,14 +17,14 @@ use Rattle.ties.proofs.settle_streets.Statement.{statement}
 use Rattle.ties.proofs.settle_streets.Tie as tie
 
 abbrev Inv-loop : tie.InvT-loop
-Inv-loop values shares prices division₀ tights ends streets₀ nexts₀ sites₀ marks₀ limits₀ s₀ s-end division streets nexts sites marks limits s =
+Inv-loop values shares prices division₀ tights ends streets₀ nexts₀ sites₀ flags₀ limits₀ s₀ s-end division streets nexts sites flags limits s =
     (s ≤ s-end) × (s-end ≡ length division₀) × (length division ≡ length division₀) × (length streets ≡ length streets₀) × (length nexts ≡ length nexts₀)
-    × (length sites ≡ length sites₀) × (length marks ≡ length marks₀) × Standing (cell values (length shares)) (at prices) (tail shares) division s
+    × (length sites ≡ length sites₀) × (length flags ≡ length flags₀) × Standing (cell values (length shares)) (at prices) (tail shares) division s
     × Listed (cell values (length shares)) (at prices) division shares (length shares) tights ends × (length limits ≡ length limits₀)
     × Limits (Leaver (cell values (length shares)) (at prices) shares division) s division limits
 
 abbrev μ-loop : tie.MeasureT-loop
-μ-loop values shares prices division₀ tights ends streets₀ nexts₀ sites₀ marks₀ limits₀ s₀ s-end division streets nexts sites marks limits s = s-end - s
+μ-loop values shares prices division₀ tights ends streets₀ nexts₀ sites₀ flags₀ limits₀ s₀ s-end division streets nexts sites flags limits s = s-end - s
 
 loop-holds : tie.Need-loop-holds Inv-loop μ-loop
 loop-holds c =
@@ -52,9 +52,9 @@ loop-again c =
     let streets = k .1 .1 .1 .1 .1 .1 .1 .0 ∙ i .3 in
     let nexts = k .1 .1 .1 .1 .1 .1 .1 .1 .0 ∙ i .4 in
     let sites = k .1 .1 .1 .1 .1 .1 .1 .1 .1 .0 ∙ i .5 in
-    let marks = k .1 .1 .1 .1 .1 .1 .1 .1 .1 .1 .0 ∙ i .6 in
+    let flags = k .1 .1 .1 .1 .1 .1 .1 .1 .1 .1 .0 ∙ i .6 in
     let limits = k .1 .1 .1 .1 .1 .1 .1 .1 .1 .1 .1 .0 ∙ i .9 in
-    (omega arith, i .1, division, streets, nexts, sites, marks, e .0, e .1 .0, limits, limits-next (e .1 .1))
+    (omega arith, i .1, division, streets, nexts, sites, flags, e .0, e .1 .0, limits, limits-next (e .1 .1))
 
 same-length : tie.Need-same-length Inv-loop μ-loop
 same-length c = c .before .loop .inv .2

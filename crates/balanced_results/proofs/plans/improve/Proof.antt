@@ -6,8 +6,8 @@ use lib.ListN.{length}
 use Prim.Native.Nat.{_+_}
 use Rattle.counting.specs.Lists.{cell}
 use native.Mathlib.Nat.{div-le-self}
-use Rattle.balanced_results.proofs.Divided.{unshared, town, given}
-use Rattle.balanced_results.proofs.Played.{shared-same}
+use Rattle.balanced_results.proofs.ListShares.{unshared, town, given}
+use Rattle.balanced_results.proofs.SurveyRounds.{shared-same}
 use Rattle.balanced_results.proofs.plans.improve.Statement.{statement}
 use Rattle.balanced_results.proofs.plans.improve.Tie as tie
 

@@ -8,8 +8,8 @@ use Rattle.counting.proofs.Parts.{front-length, front-blank}
 use Rattle.survey.specs.Rows.{value}
 use Rattle.survey.proofs.BySite.{ranked}
 use Rattle.values.proofs.Tabled.{table-of, table-fits, table-blank, table-room, table-size, table-ready, table-same}
-use Rattle.balanced_results.proofs.Falling.{table-falls}
-use Rattle.balanced_results.proofs.Played.{ranked-of, even-of, plan-surveyed}
+use Rattle.balanced_results.proofs.FallingLines.{table-falls}
+use Rattle.balanced_results.proofs.SurveyRounds.{ranked-of, even-of, plan-surveyed}
 use Rattle.balanced_results.proofs.plans.plan.Statement.{statement}
 use Rattle.balanced_results.proofs.plans.plan.Tie as tie
 

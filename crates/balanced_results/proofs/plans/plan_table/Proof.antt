@@ -8,7 +8,7 @@ use lib.Seq.{length-take-le}
 use Rattle.survey.specs.Rows.{rowOf, placeOf}
 use Rattle.values.specs.Table.{valueIn}
 use Rattle.balanced_plan.specs.Rounds.{placeKey}
-use Rattle.balanced_results.proofs.Played.{rounds-ready, state-sites, state-division, plan-given}
+use Rattle.balanced_results.proofs.SurveyRounds.{rounds-ready, state-sites, state-division, plan-given}
 use Rattle.balanced_results.proofs.plans.plan_table.Statement.{statement}
 use Rattle.balanced_results.proofs.plans.plan_table.Tie as tie
 

@@ -8,8 +8,8 @@ use Rattle.survey.proofs.BySite.{table-small}
 use Rattle.values.specs.Table.{valueIn}
 use Rattle.balanced_plan.specs.Rounds.{placeKey, evenShare}
 use Rattle.balanced_plan.proofs.Agree.{rounds-agree}
-use Rattle.balanced_results.proofs.Falling.{lines-fall}
-use Rattle.balanced_results.proofs.Played.{lines-ordered, lined-same, keyed-same, keys-right}
+use Rattle.balanced_results.proofs.FallingLines.{lines-fall}
+use Rattle.balanced_results.proofs.SurveyRounds.{lines-ordered, lined-same, keyed-same, keys-right}
 use Rattle.balanced_results.proofs.plans.play.Statement.{statement}
 use Rattle.balanced_results.proofs.plans.play.Tie as tie
 

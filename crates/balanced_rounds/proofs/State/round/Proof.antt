@@ -23,7 +23,7 @@ choose-requires c κs =
     let a = c .before .before .before .before .before .before .args in
     let p = c .before .before .before .before .before .before .pre in
     let e = length-take-le (a .n) (a .self .division) (omega (arith, p .0 .0 .few-streets, p .1 .0 .division-size)) in
-    ((table-of (a .n) (a .m) _ _ e (p .0 .0), lines-of _ (a .n) (a .m) _ e (p .0 .1), falling-of _ (a .n) (a .m) (valueIn (a .values .now) (a .m)) (a .orders .now) e (p .0 .2)), (p .1 .0 .marks .size, p .1 .2))
+    ((table-of (a .n) (a .m) _ _ e (p .0 .0), lines-of _ (a .n) (a .m) _ e (p .0 .1), falling-of _ (a .n) (a .m) (valueIn (a .values .now) (a .m)) (a .orders .now) e (p .0 .2)), (p .1 .0 .flags .size, p .1 .2))
 
 cast-taking : tie.Need-cast-taking
 cast-taking c =

@@ -1,7 +1,7 @@
 -- `chains::steps::begin` meets its contract. Assumes nothing.
 use borrow.Author.Needs.{needs}
 use lib.Seq.{length-take-le}
-use Rattle.chains.proofs.Turns.{front-at}
+use Rattle.chains.proofs.SearchLoops.{front-at}
 use lib.ListN.{length}
 use native.Mathlib.Omega.{arith}
 use mathlib.Core.Path.{sym}

@@ -6,7 +6,7 @@ use lib.ListN.{length}
 use native.Mathlib.Omega.{arith}
 use mathlib.Core.Path.{_≡_, refl}
 use Prim.Native.Nat.{_≤_, _-_}
-use Rattle.chains.proofs.Turns.{cleared}
+use Rattle.chains.proofs.SearchLoops.{cleared}
 use Rattle.chains.proofs.steps.clear.Statement.{statement}
 use Rattle.chains.proofs.steps.clear.Tie as tie
 

@@ -1,7 +1,7 @@
 -- `chains::steps::higher` meets its contract. Assumes nothing.
 use borrow.Author.Needs.{needs}
 use native.Mathlib.Omega.{arith}
-use Rattle.chains.proofs.Turns.{raised-skip}
+use Rattle.chains.proofs.SearchLoops.{raised-skip}
 use Rattle.chains.proofs.steps.higher.Statement.{statement}
 use Rattle.chains.proofs.steps.higher.Tie as tie
 

@@ -6,7 +6,7 @@ use native.Mathlib.Omega.{arith}
 use mathlib.Core.Path.{_≡_, refl}
 use Prim.Native.Nat.{_≤_, _-_}
 use Rattle.chains.specs.Chains.{Raised}
-use Rattle.chains.proofs.Turns.{raised-start, raised-done}
+use Rattle.chains.proofs.SearchLoops.{raised-start, raised-done}
 use Rattle.chains.proofs.steps.highest.Statement.{statement}
 use Rattle.chains.proofs.steps.highest.Tie as tie
 

@@ -1,6 +1,6 @@
 -- `chains::steps::sum` meets its contract. Assumes nothing.
 use borrow.Author.Needs.{needs}
-use Rattle.chains.proofs.Turns.{sum-start, sum-next, sum-done}
+use Rattle.chains.proofs.SearchLoops.{sum-start, sum-next, sum-done}
 use Rattle.counting.specs.Lists.{at, cell}
 use lib.ListN.{length, take}
 use native.Mathlib.Omega.{arith}
@@ -8,7 +8,7 @@ use mathlib.Core.Path.{_≡_, refl}
 use Prim.Native.Nat.{_+_, _*_, _≤_, _-_}
 use Rattle.counting.proofs.Tables.{in-rows}
 use Rattle.division.specs.Shares.{divisionTotal}
-use Rattle.chains.proofs.Turns.{sum-next, sum-done}
+use Rattle.chains.proofs.SearchLoops.{sum-next, sum-done}
 use Rattle.chains.proofs.steps.sum.Statement.{statement}
 use Rattle.chains.proofs.steps.sum.Tie as tie
 

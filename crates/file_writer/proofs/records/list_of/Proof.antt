@@ -4,7 +4,7 @@ use mathlib.Core.Path.{ap, _∙_}
 use mathlib.Core.List.{List}
 use Prim.Native.Nat.{ℕ}
 use Rattle.survey.specs.Rows.{rankedPart}
-use Rattle.survey.proofs.Laws.{row-part}
+use Rattle.survey.proofs.RowLoops.{row-part}
 use Rattle.file_writer.proofs.records.list_of.Statement.{statement}
 use Rattle.file_writer.proofs.records.list_of.Tie as tie
 

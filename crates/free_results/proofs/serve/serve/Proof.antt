@@ -14,12 +14,12 @@ use Rattle.free_results.proofs.serve.serve.Statement.{statement}
 use Rattle.free_results.proofs.serve.serve.Tie as tie
 
 abbrev Inv-loop : tie.InvT-loop
-Inv-loop rows m marks division₀ s₀ s-end division s =
+Inv-loop rows m flags division₀ s₀ s-end division s =
     (s ≤ s-end) × (s-end ≡ length division₀)
-    × Mapped (λ t x. goesTo (λ a. getD marks a false) (listOfStreet m rows t)) division₀ division s
+    × Mapped (λ t x. goesTo (λ a. getD flags a false) (listOfStreet m rows t)) division₀ division s
 
 abbrev μ-loop : tie.MeasureT-loop
-μ-loop rows m marks division₀ s₀ s-end division s = s-end - s
+μ-loop rows m flags division₀ s₀ s-end division s = s-end - s
 
 loop-holds : tie.Need-loop-holds Inv-loop μ-loop
 loop-holds c = (search needs, refl, mapped-none _ _)

@@ -6,7 +6,7 @@ use mathlib.Core.List.{List}
 use Prim.Native.Nat.{ℕ}
 use lib.ListN.{getD}
 use Rattle.survey.specs.Rows.{rankedPart}
-use Rattle.survey.proofs.Laws.{row-part}
+use Rattle.survey.proofs.RowLoops.{row-part}
 use Rattle.free_plan.specs.Greedy.{goesTo}
 use Rattle.free_results.proofs.serve.street.Statement.{statement}
 use Rattle.free_results.proofs.serve.street.Tie as tie
@@ -14,7 +14,7 @@ use Rattle.free_results.proofs.serve.street.Tie as tie
 returns : tie.Need-returns
 returns c =
     let a = c .before .before .before .before .args in
-    c .first-flagged .ensures ∙ ap (λ (row : List ℕ). goesTo (λ x. getD (a .marks .now) x false) (rankedPart row)) (row-part (a .m) (a .rows .now) (a .s))
+    c .first-flagged .ensures ∙ ap (λ (row : List ℕ). goesTo (λ x. getD (a .flags .now) x false) (rankedPart row)) (row-part (a .m) (a .rows .now) (a .s))
 
 pub street-spec : {M : Type 1} → statement M
 street-spec =

@@ -7,7 +7,7 @@ use native.Mathlib.Omega.{arith}
 use lib.Seq.{length-take-le}
 use Rattle.site_values.specs.Table.{siteValue}
 use Rattle.site_values.proofs.Tabled.{table-of}
-use Rattle.counting.proofs.Choice.{chosen-le}
+use Rattle.counting.proofs.Greatest.{chosen-le}
 use Rattle.free_rounds.specs.Held.{sitesOf}
 use Rattle.free_rounds.proofs.Rounded.{bests-small, choice-is, bounds-out, bounds-back, held-bounds}
 use Rattle.free_rounds.proofs.State.round.Statement.{statement}
@@ -25,7 +25,7 @@ choose-requires c κs =
     let a = c .before .before .before .before .before .before .before .args in
     let p = c .before .before .before .before .before .before .before .pre in
     let whole = length-take-le (a .n) (a .self .bests) (omega (arith, p .0 .few-streets, p .1 .0 .0 .bests-size)) in (
-      (table-of (a .n) (a .m) _ _ whole (p .0), bests-small _ (a .n) (a .self) (p .1 .0 .0) (λ s x. p .0 .small _), p .1 .0 .0 .marks .size),
+      (table-of (a .n) (a .m) _ _ whole (p .0), bests-small _ (a .n) (a .self) (p .1 .0 .0) (λ s x. p .0 .small _), p .1 .0 .0 .flags .size),
       bounds-out (a .values .now) (a .n) (a .self) (p .1 .0 .0) (p .0 .few-streets) (a .self .bounds) (p .1 .0 .1),
     )
 

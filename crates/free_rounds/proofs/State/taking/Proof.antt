@@ -7,7 +7,7 @@ use native.Mathlib.Omega.{arith}
 use Rattle.counting.proofs.Parts.{part}
 use lib.ListN.{drop}
 use Rattle.free_rounds.proofs.Rounded.{held-more, bounds-more, sites-more}
-use Rattle.free_rounds.proofs.Turns.{row-ends, row-length, row-at}
+use Rattle.free_rounds.proofs.RoundLoops.{row-ends, row-length, row-at}
 use Rattle.site_values.specs.Table.{siteValue}
 use lib.Seq.{length-take-le}
 use Rattle.free_rounds.proofs.State.taking.Statement.{statement}

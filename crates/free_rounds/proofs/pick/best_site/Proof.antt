@@ -4,36 +4,36 @@ use mathlib.Core.Path.{refl}
 use Prim.Native.Nat.{_≤_, _-_, _+_}
 use native.Mathlib.Omega.{arith}
 use Rattle.counting.specs.Lists.{at}
-use Rattle.counting.specs.Choice.{mark}
-use Rattle.counting.proofs.Choice.{Best}
+use Rattle.counting.specs.Greatest.{worthOrNone}
+use Rattle.counting.proofs.Greatest.{Best}
 use Rattle.free_rounds.specs.Held.{unflagged}
-use Rattle.free_rounds.proofs.Turns.{better-turn, mark-is, marks-start, marks-end}
+use Rattle.free_rounds.proofs.RoundLoops.{better-turn, worth-or-none-is, flags-start, flags-end}
 use Rattle.free_rounds.proofs.pick.best_site.Statement.{statement}
 use Rattle.free_rounds.proofs.pick.best_site.Tie as tie
 
 abbrev Inv-loop : tie.InvT-loop
-Inv-loop sums marks m found₀ i₀ found i = (i ≤ m) × Best (mark (unflagged marks) (at sums)) i (found .site) (found .most)
+Inv-loop sums flags m found₀ i₀ found i = (i ≤ m) × Best (worthOrNone (unflagged flags) (at sums)) i (found .site) (found .most)
 
 abbrev μ-loop : tie.MeasureT-loop
-μ-loop sums marks m found₀ i₀ found i = m - i
+μ-loop sums flags m found₀ i₀ found i = m - i
 
 loop-holds : tie.Need-loop-holds Inv-loop μ-loop
-loop-holds c = let a = c .before .before .args in (search needs, marks-start (at (a .sums .now)) (a .marks .now))
+loop-holds c = let a = c .before .before .args in (search needs, flags-start (at (a .sums .now)) (a .flags .now))
 
-mark-requires : tie.Need-mark-requires Inv-loop μ-loop
-mark-requires c κs = omega (arith, c .before .before .before .before .before .before .pre .3 (c .before .before .before .loop .i + 1))
+worth-or-none-requires : tie.Need-worth-or-none-requires Inv-loop μ-loop
+worth-or-none-requires c κs = omega (arith, c .before .before .before .before .before .before .pre .3 (c .before .before .before .loop .i + 1))
 
 loop-again : tie.Need-loop-again Inv-loop μ-loop
 loop-again c =
     let l = c .before .before .before .before .before .loop in
     let a = c .before .before .before .before .before .before .before .before .args in
-    (omega arith, better-turn (l .inv .1) (mark-is (at (a .sums .now)) (a .marks .now) (l .i) _ _ refl (c .before .mark .ensures)) (c .better .ensures))
+    (omega arith, better-turn (l .inv .1) (worth-or-none-is (at (a .sums .now)) (a .flags .now) (l .i) _ _ refl (c .before .worth-or-none .ensures)) (c .better .ensures))
 
 returns : tie.Need-returns Inv-loop μ-loop
 returns c =
     let l = c .before .loop in
     let a = c .before .before .before .before .args in
-    marks-end (at (a .sums .now)) (a .marks .now) (l .i) (a .m) _ _ (omega arith) (omega arith) (l .inv .1)
+    flags-end (at (a .sums .now)) (a .flags .now) (l .i) (a .m) _ _ (omega arith) (omega arith) (l .inv .1)
 
 pub best-site-spec : {M : Type 1} → statement M
 best-site-spec =
@@ -46,7 +46,7 @@ best-site-spec =
     (λ c. search needs)
     (λ c. search needs)
     (λ c. search needs)
-    mark-requires
+    worth-or-none-requires
     (λ c κs. search needs)
     (λ c. search needs)
     (λ c. search needs)

@@ -7,26 +7,26 @@ use native.Mathlib.Omega.{arith}
 use lib.ListN.{length}
 use Rattle.counting.specs.Words.{sumOf}
 use Rattle.counting.specs.Lists.{at}
-use Rattle.counting.specs.Choice.{mark}
-use Rattle.counting.proofs.Choice.{Best}
+use Rattle.counting.specs.Greatest.{worthOrNone}
+use Rattle.counting.proofs.Greatest.{Best}
 use Rattle.free_rounds.specs.Held.{Bounded, unflagged, withSite}
-use Rattle.free_rounds.proofs.Turns.{either-way, better-turn, pass-turn, mark-is, marks-start, marks-end, bounded-set, row-ends, row-beside, row-sum, with-small, with-most}
+use Rattle.free_rounds.proofs.RoundLoops.{either-way, better-turn, pass-turn, worth-or-none-is, flags-start, flags-end, bounded-set, row-ends, row-beside, row-sum, with-small, with-most}
 use Rattle.free_rounds.proofs.pick.choose.Statement.{statement}
 use Rattle.free_rounds.proofs.pick.choose.Tie as tie
 
 abbrev Inv-loop : tie.InvT-loop
-Inv-loop values bests m marks bounds₀ n total found₀ i₀ bounds found i =
+Inv-loop values bests m flags bounds₀ n total found₀ i₀ bounds found i =
     (i ≤ m) × (n ≡ length bests) × (total ≡ sumOf (length bests) (at bests)) × Bounded (withSite values bests) (sumOf (length bests) (at bests)) bounds
-    × Best (mark (unflagged marks) (withSite values bests)) i (found .site) (found .most)
+    × Best (worthOrNone (unflagged flags) (withSite values bests)) i (found .site) (found .most)
 
 abbrev μ-loop : tie.MeasureT-loop
-μ-loop values bests m marks bounds₀ n total found₀ i₀ bounds found i = m - i
+μ-loop values bests m flags bounds₀ n total found₀ i₀ bounds found i = m - i
 
 -- in a turn: the total and a bound are not great, the site has its bound and its flag
 sizes : (c : tie.In-loop Inv-loop μ-loop) →
     let a = c .before .before .before .before .before .before .before .args in
     let l = c .before .loop in
-    (c .before .before .sum .result ≤ 400000) × (at (l .bounds) (l .i + 1) ≤ 400000) × (l .i + 1 < length (l .bounds)) × (l .i + 1 < length (a .marks .now))
+    (c .before .before .sum .result ≤ 400000) × (at (l .bounds) (l .i + 1) ≤ 400000) × (l .i + 1 < length (l .bounds)) × (l .i + 1 < length (a .flags .now))
 sizes c =
     let a = c .before .before .before .before .before .before .before .args in
     let p = c .before .before .before .before .before .before .before .pre in
@@ -54,19 +54,19 @@ sum-requires c κs = let p = c .before .before .before .before .pre in (p .0 .1,
 loop-holds : tie.Need-loop-holds Inv-loop μ-loop
 loop-holds c =
     let a = c .before .before .before .before .before .args in
-    (search needs, refl, c .sum .ensures, c .before .before .before .before .before .pre .1, marks-start (withSite (a .values .now) (a .bests .now)) (a .marks .now))
+    (search needs, refl, c .sum .ensures, c .before .before .before .before .before .pre .1, flags-start (withSite (a .values .now) (a .bests .now)) (a .flags .now))
 
-slice-read-mark : tie.Need-slice-read-mark Inv-loop μ-loop
-slice-read-mark c = let q = sizes (c .before) in omega arith
+slice-read-worth-or-none : tie.Need-slice-read-worth-or-none Inv-loop μ-loop
+slice-read-worth-or-none c = let q = sizes (c .before) in omega arith
 
-add-mark : tie.Need-add-mark Inv-loop μ-loop
-add-mark c = let q = sizes (c .before) in omega arith
+add-worth-or-none : tie.Need-add-worth-or-none Inv-loop μ-loop
+add-worth-or-none c = let q = sizes (c .before) in omega arith
 
-shared-slice-read-mark : tie.Need-shared-slice-read-mark Inv-loop μ-loop
-shared-slice-read-mark c = let q = sizes (c .before .before) in omega arith
+shared-slice-read-worth-or-none : tie.Need-shared-slice-read-worth-or-none Inv-loop μ-loop
+shared-slice-read-worth-or-none c = let q = sizes (c .before .before) in omega arith
 
-mark-requires : tie.Need-mark-requires Inv-loop μ-loop
-mark-requires c κs = let q = sizes (c .before .before) in omega arith
+worth-or-none-requires : tie.Need-worth-or-none-requires Inv-loop μ-loop
+worth-or-none-requires c κs = let q = sizes (c .before .before) in omega arith
 
 mul-from : tie.Need-mul-from Inv-loop μ-loop
 mul-from c = let e = ends c in omega arith
@@ -106,11 +106,11 @@ sub-bounds c = let q = summed c in omega arith
 slice-write-bounds : tie.Need-slice-write-bounds Inv-loop μ-loop
 slice-write-bounds c = let q = sizes (c .before .before .before .before .before .before .before) in omega arith
 
-shared-slice-read-mark-2 : tie.Need-shared-slice-read-mark-2 Inv-loop μ-loop
-shared-slice-read-mark-2 c = let q = sizes (c .before .before .before .before .before .before .before .before) in omega arith
+shared-slice-read-worth-or-none-2 : tie.Need-shared-slice-read-worth-or-none-2 Inv-loop μ-loop
+shared-slice-read-worth-or-none-2 c = let q = sizes (c .before .before .before .before .before .before .before .before) in omega arith
 
-mark-requires-2 : tie.Need-mark-requires-2 Inv-loop μ-loop
-mark-requires-2 c κs = let q = summed (c .before) in omega arith
+worth-or-none-requires-2 : tie.Need-worth-or-none-requires-2 Inv-loop μ-loop
+worth-or-none-requires-2 c κs = let q = summed (c .before) in omega arith
 
 loop-again : tie.Need-loop-again Inv-loop μ-loop
 loop-again c =
@@ -126,15 +126,15 @@ loop-again c =
     ⊎-elim
     (λ w.
     let e = sum _ (p .0 .0) (omega arith) (w .2 .ensures) in
-    either-way (λ bounds found. Bounded f so bounds × Best (mark (unflagged (a .marks .now)) f) (l .i + 1) (found .site) (found .most)) (w .6) (w .7) (
+    either-way (λ bounds found. Bounded f so bounds × Best (worthOrNone (unflagged (a .flags .now)) f) (l .i + 1) (found .site) (found .most)) (w .6) (w .7) (
       bounded-set f so (l .bounds) (l .inv .3) (l .i + 1) _ _ (omega (arith, p .0 .0 .few-sites)) e (l .inv .2) most low,
-      better-turn (l .inv .4) (mark-is f (a .marks .now) (l .i) _ _ e (w .4 .ensures)) (w .5 .ensures),
+      better-turn (l .inv .4) (worth-or-none-is f (a .flags .now) (l .i) _ _ e (w .4 .ensures)) (w .5 .ensures),
     ))
     (λ w.
-    either-way (λ bounds found. Bounded f so bounds × Best (mark (unflagged (a .marks .now)) f) (l .i + 1) (found .site) (found .most)) (w .1) (w .2) (
+    either-way (λ bounds found. Bounded f so bounds × Best (worthOrNone (unflagged (a .flags .now)) f) (l .i + 1) (found .site) (found .most)) (w .1) (w .2) (
       l .inv .3,
-      pass-turn f (a .marks .now) (l .i) _ _ (c .before .before .before .before .before .before .before .sum .result + at (l .bounds) (l .i + 1)) _ (l .inv .4)
-          (omega (arith, l .inv .3 .right (l .i + 1) (omega (arith, p .0 .0 .few-sites)), l .inv .2)) (c .before .before .mark .ensures) (omega (arith, w .0 .left)),
+      pass-turn f (a .flags .now) (l .i) _ _ (c .before .before .before .before .before .before .before .sum .result + at (l .bounds) (l .i + 1)) _ (l .inv .4)
+          (omega (arith, l .inv .3 .right (l .i + 1) (omega (arith, p .0 .0 .few-sites)), l .inv .2)) (c .before .before .worth-or-none .ensures) (omega (arith, w .0 .left)),
     ))
     (c .if1 .came) in
     (omega arith, refl, l .inv .2, turned .0, turned .1)
@@ -146,7 +146,7 @@ returns : tie.Need-returns Inv-loop μ-loop
 returns c =
     let a = c .before .before .before .before .before .before .before .args in
     let l = c .before .loop in
-    (marks-end (withSite (a .values .now) (a .bests .now)) (a .marks .now) (l .i) (a .m) _ _ (omega arith) (omega arith) (l .inv .4), l .inv .3)
+    (flags-end (withSite (a .values .now) (a .bests .now)) (a .flags .now) (l .i) (a .m) _ _ (omega arith) (omega arith) (l .inv .4), l .inv .3)
 
 pub choose-spec : {M : Type 1} → statement M
 choose-spec =
@@ -158,10 +158,10 @@ choose-spec =
     loop-holds
     (λ c. search needs)
     (λ c. search needs)
-    slice-read-mark
-    add-mark
-    shared-slice-read-mark
-    mark-requires
+    slice-read-worth-or-none
+    add-worth-or-none
+    shared-slice-read-worth-or-none
+    worth-or-none-requires
     mul-from
     add-to
     mul-sum-with
@@ -172,8 +172,8 @@ choose-spec =
     sub-bounds
     (λ c. search needs)
     slice-write-bounds
-    shared-slice-read-mark-2
-    mark-requires-2
+    shared-slice-read-worth-or-none-2
+    worth-or-none-requires-2
     (λ c κs. search needs)
     (λ c. search needs)
     (λ c. search needs)

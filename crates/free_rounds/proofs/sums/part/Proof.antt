@@ -7,7 +7,7 @@ use lib.ListN.{length}
 use Rattle.counting.specs.Words.{sumOf}
 use Rattle.counting.proofs.Sums.{sum-end}
 use Rattle.counting.specs.Lists.{at}
-use Rattle.free_rounds.proofs.Turns.{sum-turn}
+use Rattle.free_rounds.proofs.RoundLoops.{sum-turn}
 use Rattle.free_rounds.proofs.sums.part.Statement.{statement}
 use Rattle.free_rounds.proofs.sums.part.Tie as tie
 

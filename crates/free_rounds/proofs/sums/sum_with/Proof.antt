@@ -7,7 +7,7 @@ use lib.ListN.{length}
 use Rattle.counting.specs.Words.{sumOf}
 use Rattle.counting.proofs.Sums.{sum-end}
 use Rattle.counting.specs.Lists.{at}
-use Rattle.free_rounds.proofs.Turns.{part-ready, part-turn}
+use Rattle.free_rounds.proofs.RoundLoops.{part-ready, part-turn}
 use Rattle.free_rounds.proofs.sums.sum_with.Statement.{statement}
 use Rattle.free_rounds.proofs.sums.sum_with.Tie as tie
 

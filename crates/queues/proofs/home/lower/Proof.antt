@@ -1,7 +1,7 @@
 -- `queues::home::lower` meets its contract. Assumes nothing.
 use borrow.Author.Needs.{needs}
 use borrow.Author.Tests.{not-true, not-false}
-use Rattle.queues.proofs.Homeward.{lowest-new, lowest-keep}
+use Rattle.queues.proofs.PathBack.{lowest-new, lowest-keep}
 use Rattle.queues.proofs.home.lower.Statement.{statement}
 use Rattle.queues.proofs.home.lower.Tie as tie
 

@@ -4,7 +4,7 @@ use Prim.Native.Nat.{_≤_, _-_}
 use native.Mathlib.Omega.{arith}
 use Rattle.counting.specs.Lists.{at, cell}
 use Rattle.queues.specs.Home.{Lowest}
-use Rattle.queues.proofs.Homeward.{lowest-start, lowest-end}
+use Rattle.queues.proofs.PathBack.{lowest-start, lowest-end}
 use Rattle.queues.proofs.home.lowest.Statement.{statement}
 use Rattle.queues.proofs.home.lowest.Tie as tie
 

@@ -8,7 +8,7 @@ use lib.ListN.{length}
 use Rattle.counting.specs.Lists.{at}
 use Rattle.queues.specs.Limits.{Leaver, Limits}
 use Rattle.queues.specs.Home.{Turning}
-use Rattle.queues.proofs.Homeward.{turning-start, turning-step, turning-done}
+use Rattle.queues.proofs.PathBack.{turning-start, turning-step, turning-done}
 use Rattle.queues.proofs.Limiting.{limits-move, limits-home}
 use Rattle.queues.proofs.home.turn.Statement.{statement}
 use Rattle.queues.proofs.home.turn.Tie as tie

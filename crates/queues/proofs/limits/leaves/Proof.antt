@@ -9,9 +9,9 @@ use lib.ListN.{length}
 use borrow.Author.Count.{below-more}
 use Rattle.counting.specs.Lists.{at, cell}
 use Rattle.counting.proofs.Sums.{at-within}
-use Rattle.division.proofs.Dual.{Tight}
 use Rattle.queues.proofs.limits.leaves.Statement.{statement}
 use Rattle.queues.proofs.limits.leaves.Tie as tie
+use Rattle.division.specs.Prices.{Tight}
 
 abbrev Inv-loop : tie.InvT-loop
 Inv-loop values shares prices division t y₀ y-end y =

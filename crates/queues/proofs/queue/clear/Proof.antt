@@ -10,10 +10,10 @@ use Rattle.queues.proofs.queue.clear.Statement.{statement}
 use Rattle.queues.proofs.queue.clear.Tie as tie
 
 abbrev Inv-loop : tie.InvT-loop
-Inv-loop marks₀ x₀ x-end marks x = (x ≤ x-end) × (length marks ≡ x-end) × Clear marks x
+Inv-loop flags₀ x₀ x-end flags x = (x ≤ x-end) × (length flags ≡ x-end) × Clear flags x
 
 abbrev μ-loop : tie.MeasureT-loop
-μ-loop marks₀ x₀ x-end marks x = x-end - x
+μ-loop flags₀ x₀ x-end flags x = x-end - x
 
 loop-holds : tie.Need-loop-holds Inv-loop μ-loop
 loop-holds c = (search needs, refl, λ y l. absurd (omega arith))
@@ -21,7 +21,7 @@ loop-holds c = (search needs, refl, λ y l. absurd (omega arith))
 loop-again : tie.Need-loop-again Inv-loop μ-loop
 loop-again c =
     let l = c .before .loop in
-    (omega arith, search needs, clear-more (l .marks) (l .x) (omega arith) (l .inv .2))
+    (omega arith, search needs, clear-more (l .flags) (l .x) (omega arith) (l .inv .2))
 
 same-length : tie.Need-same-length Inv-loop μ-loop
 same-length c = c .before .loop .inv .1

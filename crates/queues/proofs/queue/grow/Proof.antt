@@ -11,19 +11,19 @@ use Rattle.queues.proofs.queue.grow.Statement.{statement}
 use Rattle.queues.proofs.queue.grow.Tie as tie
 
 abbrev Inv-loop : tie.InvT-loop
-Inv-loop values prices w division s tights ends streets₀ nexts₀ sites₀ marks₀ count₀ i₀ streets nexts sites marks count i =
-    (i ≤ count) × (length streets ≡ length streets₀) × (length nexts ≡ length nexts₀) × (length sites ≡ length sites₀) × (length marks ≡ length marks₀)
-    × Grown (cell values w) (at prices) division s w count sites streets nexts marks i
+Inv-loop values prices w division s tights ends streets₀ nexts₀ sites₀ flags₀ count₀ i₀ streets nexts sites flags count i =
+    (i ≤ count) × (length streets ≡ length streets₀) × (length nexts ≡ length nexts₀) × (length sites ≡ length sites₀) × (length flags ≡ length flags₀)
+    × Grown (cell values w) (at prices) division s w count sites streets nexts flags i
 
 abbrev μ-loop : tie.MeasureT-loop
-μ-loop values prices w division s tights ends streets₀ nexts₀ sites₀ marks₀ count₀ i₀ streets nexts sites marks count i = w - i
+μ-loop values prices w division s tights ends streets₀ nexts₀ sites₀ flags₀ count₀ i₀ streets nexts sites flags count i = w - i
 
 start-requires : tie.Need-start-requires Inv-loop μ-loop
 start-requires c κs =
     let start = c .before .before .before .before .before .before .before .before .before .before .before in
     let p = start .pre in
     let small = p .0 .sited (start .args .s) (p .1 .1 .0) in
-    (p .1 .1 .0, omega (arith, p .1 .0 .marks-fit), omega (arith, p .1 .0 .sites-fit))
+    (p .1 .1 .0, omega (arith, p .1 .0 .flags-fit), omega (arith, p .1 .0 .sites-fit))
 
 loop-holds : tie.Need-loop-holds Inv-loop μ-loop
 loop-holds c =
@@ -63,8 +63,8 @@ loop-again c =
     let streets = k .1 .1 .1 .1 .1 .1 .1 .1 .1 .0 ∙ i .1 in
     let nexts = k .1 .1 .1 .1 .1 .1 .1 .1 .1 .1 .0 ∙ i .2 in
     let sites = k .1 .1 .1 .1 .1 .1 .1 .1 .1 .1 .1 .0 ∙ i .3 in
-    let marks = k .1 .1 .1 .1 .1 .1 .1 .1 .1 .1 .1 .1 .0 ∙ i .4 in
-    (omega (arith, t .scan .ensures .0), streets, nexts, sites, marks, t .scan .ensures .1)
+    let flags = k .1 .1 .1 .1 .1 .1 .1 .1 .1 .1 .1 .1 .0 ∙ i .4 in
+    (omega (arith, t .scan .ensures .0), streets, nexts, sites, flags, t .scan .ensures .1)
 
 same-length : tie.Need-same-length Inv-loop μ-loop
 same-length c = c .before .loop .inv .1

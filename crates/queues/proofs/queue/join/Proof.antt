@@ -54,8 +54,8 @@ tight-requires c κs =
 returns-2 : tie.Need-returns-2
 returns-2 c = (λ s l h. growing-keep h (λ n. c .before .tight .ensures .1 (not-true _ (c .if2 .taken))), λ j l. refl)
 
-slice-write-marks : tie.Need-slice-write-marks
-slice-write-marks c =
+slice-write-flags : tie.Need-slice-write-flags
+slice-write-flags c =
     let start = c .before .before .before .before .before .before .before .before .before .before .before .before .before in
     let a = start .args in
     let p = start .pre in
@@ -154,7 +154,7 @@ join-spec =
     cast-y
     tight-requires
     returns-2
-    slice-write-marks
+    slice-write-flags
     (λ c. search needs)
     mul-streets
     slice-write-streets

@@ -13,13 +13,13 @@ use Rattle.queues.proofs.queue.scan.Statement.{statement}
 use Rattle.queues.proofs.queue.scan.Tie as tie
 
 abbrev Inv-loop : tie.InvT-loop
-Inv-loop values prices w division s tights ends i count streets₀ nexts₀ sites₀ marks₀ y row k₀ j₀ t₀ streets nexts sites marks k j t =
+Inv-loop values prices w division s tights ends i count streets₀ nexts₀ sites₀ flags₀ y row k₀ j₀ t₀ streets nexts sites flags k j t =
     (j ≤ at ends y) × (t ≡ at tights (row + j)) × (at sites i ≡ y) × (length streets ≡ length streets₀) × (length nexts ≡ length nexts₀)
-    × (length sites ≡ length sites₀) × (length marks ≡ length marks₀)
-    × Growing (cell values w) (at prices) division s w k sites streets nexts marks i (t + 1)
+    × (length sites ≡ length sites₀) × (length flags ≡ length flags₀)
+    × Growing (cell values w) (at prices) division s w k sites streets nexts flags i (t + 1)
 
 abbrev μ-loop : tie.MeasureT-loop
-μ-loop values prices w division s tights ends i count streets₀ nexts₀ sites₀ marks₀ y row k₀ j₀ t₀ streets nexts sites marks k j t = j
+μ-loop values prices w division s tights ends i count streets₀ nexts₀ sites₀ flags₀ y row k₀ j₀ t₀ streets nexts sites flags k j t = j
 
 slice-read-y : tie.Need-slice-read-y Inv-loop μ-loop
 slice-read-y c =

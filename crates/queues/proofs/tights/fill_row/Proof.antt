@@ -5,11 +5,11 @@ use Prim.Native.Nat.{_≤_, _-_}
 use native.Mathlib.Omega.{arith}
 use lib.ListN.{length}
 use Rattle.counting.specs.Lists.{at, cell}
-use Rattle.division.proofs.Ties.{Agree}
 use Rattle.queues.specs.Tights.{Row}
 use Rattle.queues.proofs.Listing.{row-start, row-end}
 use Rattle.queues.proofs.tights.fill_row.Statement.{statement}
 use Rattle.queues.proofs.tights.fill_row.Tie as tie
+use Rattle.division.specs.Prices.{Agree}
 
 abbrev Inv-loop : tie.InvT-loop
 Inv-loop values prices w division y row tights₀ e₀ t₀ t-end tights e t =

@@ -5,10 +5,10 @@ use Prim.Native.Nat.{_+_, _*_}
 use native.Mathlib.Omega.{arith}
 use lib.ListN.{length, set, length-set}
 use lib.Seq.{getD-set-same}
-use Rattle.division.proofs.Ties.{Agree}
 use Rattle.queues.proofs.Listing.{row-fits, row-stored, listed-skip, listed-more, agree-set}
 use Rattle.queues.proofs.tights.list_site.Statement.{statement}
 use Rattle.queues.proofs.tights.list_site.Tie as tie
+use Rattle.division.specs.Prices.{Agree}
 
 returns : tie.Need-returns
 returns c =

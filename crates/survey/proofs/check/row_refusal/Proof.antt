@@ -6,22 +6,22 @@ use native.Mathlib.Omega.{arith}
 use lib.ListN.{length, take}
 use Rattle.counting.specs.Lists.{at}
 use Rattle.counting.specs.Words.{firstOf}
-use Rattle.counting.specs.Marks.{Marks}
-use Rattle.counting.proofs.Marking.{marks-none}
+use Rattle.counting.specs.Flags.{Flags}
+use Rattle.counting.proofs.Flagging.{flags-none}
 use Rattle.counting.proofs.Refusals.{loop, first-start, first-found, first-next}
 use Rattle.survey.specs.Refusals.{byteRefusal}
-use Rattle.survey.proofs.Laws.{seen-more, byte-is}
+use Rattle.survey.proofs.RowLoops.{seen-more, byte-is}
 use Rattle.survey.proofs.check.row_refusal.Statement.{statement}
 use Rattle.survey.proofs.check.row_refusal.Tie as tie
 
 abbrev Inv-loop : tie.InvT-loop
-Inv-loop m row seen₀ j₀ j-end seen j = (j ≤ j-end) × (j-end ≡ length row) × (firstOf j (byteRefusal m row) ≡ 0) × Marks seen (take j row)
+Inv-loop m row seen₀ j₀ j-end seen j = (j ≤ j-end) × (j-end ≡ length row) × (firstOf j (byteRefusal m row) ≡ 0) × Flags seen (take j row)
 
 abbrev μ-loop : tie.MeasureT-loop
 μ-loop m row seen₀ j₀ j-end seen j = j-end - j
 
 loop-holds : tie.Need-loop-holds Inv-loop μ-loop
-loop-holds c = (search needs, refl, first-start _, marks-none)
+loop-holds c = (search needs, refl, first-start _, flags-none)
 
 cast-at : tie.Need-cast-at Inv-loop μ-loop
 cast-at c = omega (arith, c .shared-slice-known2 .given (c .before .before .loop .j))

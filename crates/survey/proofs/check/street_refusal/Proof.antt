@@ -2,7 +2,7 @@
 use borrow.Author.Needs.{needs}
 use mathlib.Core.Path.{sym, ap, _∙_}
 use Rattle.survey.specs.Refusals.{rowRefusal}
-use Rattle.survey.proofs.Laws.{row-part}
+use Rattle.survey.proofs.RowLoops.{row-part}
 use Rattle.survey.proofs.check.street_refusal.Statement.{statement}
 use Rattle.survey.proofs.check.street_refusal.Tie as tie
 

@@ -8,7 +8,7 @@ use native.Mathlib.Omega.{arith}
 use mathlib.Core.Path.{sym}
 use lib.Seq.{length-take-le}
 use Rattle.survey.specs.Rows.{rankedPart}
-use Rattle.survey.proofs.Laws.{ranked-stop, ranked-more, ranked-all}
+use Rattle.survey.proofs.RowLoops.{ranked-stop, ranked-more, ranked-all}
 use Rattle.survey.proofs.rows.ranked.Statement.{statement}
 use Rattle.survey.proofs.rows.ranked.Tie as tie
 

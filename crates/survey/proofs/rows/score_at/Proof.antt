@@ -1,7 +1,7 @@
 -- `survey::rows::score_at` meets its contract. Assumes nothing.
 use borrow.Author.Needs.{needs}
 use Rattle.counting.proofs.Refusals.{chain}
-use Rattle.survey.proofs.Laws.{past-score}
+use Rattle.survey.proofs.RowLoops.{past-score}
 use Rattle.survey.proofs.rows.score_at.Statement.{statement}
 use Rattle.survey.proofs.rows.score_at.Tie as tie
 

@@ -11,7 +11,7 @@ use lib.ListN.{length, set, length-set}
 use lib.Seq.{getD-set-same, getD-set-other}
 use borrow.Author.Count.{below-more}
 use Rattle.counting.specs.Lists.{at}
-use Rattle.division.proofs.Dual.{Tight}
+use Rattle.division.specs.Prices.{Tight}
 use Rattle.division.proofs.Chain.{over-on, over-total}
 use Rattle.queues.specs.Queue.{Differ, Later, Queue, Grown}
 use Rattle.queues.specs.Home.{Lowest, Turning, Turned}
@@ -51,8 +51,8 @@ pub lowest-end : {v : ℕ → ℕ → ℕ} {d : ℕ → ℕ} {D : List ℕ} {s :
 lowest-end i k a b h = rw (le-antisymm b a) at h
 
 -- the way home from a place of the queue
-pub way-home : {v : ℕ → ℕ → ℕ} {d : ℕ → ℕ} {D : List ℕ} {s w k : ℕ} {sites streets nexts : List ℕ} {marks : List Bool} {i : ℕ} (q : ℕ) → q < k
-    → Grown v d D s w k sites streets nexts marks i → Differ (q + 1) sites × Queue D s (q + 1) sites streets nexts
+pub way-home : {v : ℕ → ℕ → ℕ} {d : ℕ → ℕ} {D : List ℕ} {s w k : ℕ} {sites streets nexts : List ℕ} {flags : List Bool} {i : ℕ} (q : ℕ) → q < k
+    → Grown v d D s w k sites streets nexts flags i → Differ (q + 1) sites × Queue D s (q + 1) sites streets nexts
 way-home q l g = (
   λ i j m n. g .placed .differ i j m (omega arith),
   record {

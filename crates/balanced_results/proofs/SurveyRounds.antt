@@ -11,7 +11,7 @@ use native.Mathlib.Omega.{arith}
 use lib.ListN.{length, take, drop, length-drop}
 use lib.Seq.{getD-take, getD-drop, length-take-le}
 use Rattle.counting.specs.Lists.{at, cell}
-use Rattle.counting.specs.Sites.{Plan}
+use Rattle.counting.specs.Sites.{Choice}
 use Rattle.counting.proofs.Sums.{has-at}
 use Rattle.counting.proofs.Tables.{row-within}
 use Rattle.survey.specs.Rows.{rowOf, placeOf}
@@ -21,14 +21,14 @@ use Rattle.division.specs.Divide.{divide}
 use Rattle.balanced_plan.specs.Rounds.{ordered, rounds, placeKey, evenShare}
 use Rattle.balanced_plan.specs.Rounds as plan
 use Rattle.balanced_plan.proofs.Ordered.{ordered-street}
-use Rattle.balanced_plan.proofs.Dealt.{rounds-plan, rounds-in}
-use Rattle.balanced_plan.proofs.Evenly.{even-sum}
+use Rattle.balanced_plan.proofs.RoundShares.{rounds-plan, rounds-in}
+use Rattle.balanced_plan.proofs.FloorShares.{even-sum}
 use Rattle.balanced_plan.proofs.Agree.{rounds-agree}
 use Rattle.balanced_rounds.specs.declared.State.{State}
 use Rattle.balanced_rounds.specs.Lines.{Lines, stateOf}
 use Rattle.balanced_results.specs.Shareable.{Shareable}
 use Rattle.balanced_results.specs.Plans.{planSites, planDivision}
-use Rattle.balanced_results.proofs.Divided.{as-valued, total-valued}
+use Rattle.balanced_results.proofs.ListShares.{as-valued, total-valued}
 
 -- ---- lines
 module _ (n m : ℕ) (list : List ℕ) (size : length list ≡ (m + 1) * n) where
@@ -69,7 +69,7 @@ module _ (n m : ℕ) (list : List ℕ) (size : length list ≡ (m + 1) * n) wher
 module _ (v key : ℕ → ℕ → ℕ) (n m k : ℕ) (few : k ≤ m) (even : k * (n / k) ≡ n) (sites : List ℕ)
     (e : sites ≡ rounds v key n m (evenShare n k) k .chosen) where
   -- the sites are k different ones of 1 to m
-  pub sites-plan : Plan m k sites
+  pub sites-plan : Choice m k sites
   sites-plan = rw e (rounds-plan v key n m (evenShare n k) k few)
 
   -- over which the streets can be shared

@@ -9,10 +9,10 @@ use lib.ListN.{length}
 use Rattle.counting.specs.Lists.{at}
 use Rattle.counting.proofs.Sums.{has-at}
 use Rattle.values.specs.Table.{Table}
-use Rattle.division.specs.Shares.{InShares, divisionTotal, sharesOf}
+use Rattle.division.specs.Shares.{InShares, divisionTotal, sharesOf, shareSum}
 use Rattle.division.specs.Divide.{divide}
-use Rattle.division.specs.Town.{Town}
-use Rattle.division.proofs.Counts.{shareSum, share-fits, has-share, divisionTotal-same}
+use Rattle.division.specs.Problem.{Problem}
+use Rattle.division.proofs.Counts.{share-fits, has-share, divisionTotal-same}
 use Rattle.division.proofs.Best.{divide-in, divide-length, divide-same}
 use Rattle.division.proofs.Shared.{shares-length, shares-even}
 use Rattle.starts.specs.Given.{Unshared}
@@ -23,7 +23,7 @@ pub unshared : (n m : ℕ) (list shares : List ℕ) → Shareable n m list → l
 unshared n m list shares ok size none = record { size = size; none = none; listed = λ i l. ok .sites (at list i) (has-at list i l) }
 
 -- the values and the shares make a town
-pub town : (n m k : ℕ) (values shares : List ℕ) → n ≡ k → Table n m values → length shares ≡ m + 1 → at shares 0 ≡ 0 → Town values shares k
+pub town : (n m k : ℕ) (values shares : List ℕ) → n ≡ k → Table n m values → length shares ≡ m + 1 → at shares 0 ≡ 0 → Problem values shares k
 town n m k values shares e table size nobody = rw (← e) (record {
   size = rw size (table .size);
   small = table .small;

@@ -12,16 +12,16 @@ use lib.ListN.{length, replicate, length-replicate}
 use borrow.Author.Tests.{eqb-true}
 use Rattle.counting.specs.Words.{one, sumOf}
 use Rattle.counting.specs.Lists.{has, count}
-use Rattle.counting.specs.Sites.{Sites, Plan}
+use Rattle.counting.specs.Sites.{Sites, Choice}
 use Rattle.counting.proofs.Membership.{sum-le}
 use Rattle.counting.proofs.Sums.{sumOf-upto}
-use Rattle.counting.proofs.Choice.{unchosen-only, unchosen-greatest}
+use Rattle.counting.proofs.Greatest.{unchosen-only, unchosen-greatest}
 use Rattle.division.specs.Shares.{share, shareAmong, sharesOf, InShares, divisionTotal}
 use Rattle.division.proofs.Shared.{shares-are}
 use Rattle.balanced_plan.specs.Rounds.{lot, worth, choice, rounds}
-use Rattle.counting.proofs.Plans.{plan-none, plan-add}
+use Rattle.counting.proofs.Choices.{plan-none, plan-add}
 use Rattle.counting.proofs.Listed.{sum-even}
-use Rattle.balanced_plan.proofs.Lots.{lot-givable, lot-length, give-length, give-total, give-count}
+use Rattle.balanced_plan.proofs.TakenStreets.{lot-givable, lot-length, give-length, give-total, give-count}
 
 -- a site that is chosen last has the share that comes next
 among-last : (q : ℕ → ℕ) (chosen : List ℕ) (b x : ℕ) → has b chosen ≡ false
@@ -59,14 +59,14 @@ module _ (v key : ℕ → ℕ → ℕ) (n m : ℕ) (q : ℕ → ℕ) where
   nextSite i = choice v key m (q i) (rounds v key n m q i)
 
   -- the next site is one of 1 to m that is not chosen yet
-  next-new : (i : ℕ) → Plan m i (sitesAfter i) → i < m → (0 < nextSite i) × (nextSite i ≤ m) × (has (nextSite i) (sitesAfter i) ≡ false)
+  next-new : (i : ℕ) → Choice m i (sitesAfter i) → i < m → (0 < nextSite i) × (nextSite i ≤ m) × (has (nextSite i) (sitesAfter i) ≡ false)
   next-new i p l =
       let c = unchosen-greatest (sitesAfter i) (worth v key (q i) (divisionAfter i)) m (omega (arith, p .size)) in
       let (low, new) = unchosen-only (sitesAfter i) (nextSite i) (c .passes) in
       (low, c .upto, new)
 
   -- i rounds choose i different sites of 1 to m
-  pub rounds-plan : (i : ℕ) → i ≤ m → Plan m i (sitesAfter i)
+  pub rounds-plan : (i : ℕ) → i ≤ m → Choice m i (sitesAfter i)
   unfolding rounds
   rounds-plan zero l = plan-none
   rounds-plan (suc i) l =

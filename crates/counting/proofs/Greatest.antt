@@ -14,7 +14,7 @@ use lib.ListN.{length}
 use borrow.Author.Tests.{ltb-true, ltb-false, lt-ltb, not-true}
 use Rattle.counting.specs.Words.{_when_}
 use Rattle.counting.specs.Lists.{has}
-use Rattle.counting.specs.Choice.{seek, mark, greatest, unchosen}
+use Rattle.counting.specs.Greatest.{seek, worthOrNone, greatest, unchosen}
 use Rattle.counting.proofs.Refusals.{when-yes, when-none, and-both, and-not-right}
 use Rattle.counting.proofs.Membership.{cond-at, some-left}
 
@@ -77,24 +77,24 @@ pub record Chosen (test : ℕ → Bool) (worth : ℕ → ℕ) (m g : ℕ) : Type
   pub first : (a : ℕ) → a < g → test a ≡ true → worth a < worth g
 
 module _ (test : ℕ → Bool) (worth : ℕ → ℕ) where
-  -- the mark of a number that passes the test, and of one that does not
-  pub mark-yes : (a : ℕ) → test a ≡ true → mark test worth a ≡ suc (worth a)
-  mark-yes a e = sym (when-yes (suc (worth a)) (test a) e)
+  -- what a number that passes the test is compared by, and one that does not
+  pub worth-or-none-yes : (a : ℕ) → test a ≡ true → worthOrNone test worth a ≡ suc (worth a)
+  worth-or-none-yes a e = sym (when-yes (suc (worth a)) (test a) e)
 
-  pub mark-none : (a : ℕ) → test a ≡ false → mark test worth a ≡ 0
-  mark-none a e = sym (when-none (suc (worth a)) (test a) e)
+  pub worth-or-none-none : (a : ℕ) → test a ≡ false → worthOrNone test worth a ≡ 0
+  worth-or-none-none a e = sym (when-none (suc (worth a)) (test a) e)
 
-  -- a mark is at most x where a worth that counts is below x
-  mark-le : (a x : ℕ) → (test a ≡ true → worth a < x) → mark test worth a ≤ x
-  mark-le a x h = ⊎-elim (λ n. omega (arith, mark-none a n)) (λ y. omega (arith, h y, mark-yes a y)) (dichotomy (test a))
+  -- what is compared is at most x where a worth that counts is below x
+  worth-or-none-le : (a x : ℕ) → (test a ≡ true → worth a < x) → worthOrNone test worth a ≤ x
+  worth-or-none-le a x h = ⊎-elim (λ n. omega (arith, worth-or-none-none a n)) (λ y. omega (arith, h y, worth-or-none-yes a y)) (dichotomy (test a))
 
-  -- the greatest is what a scan of the marks up to m finds
-  found : (m : ℕ) → (x : ℕ) × Best (mark test worth) m (greatest test worth m) x
+  -- the greatest is what a scan of the flags up to m finds
+  found : (m : ℕ) → (x : ℕ) × Best (worthOrNone test worth) m (greatest test worth m) x
   unfolding greatest
-  found m = ((seek (mark test worth) m) .1, seek-best (mark test worth) m)
+  found m = ((seek (worthOrNone test worth) m) .1, seek-best (worthOrNone test worth) m)
 
   -- so a scan that has come to m holds it
-  pub best-done : {m b x : ℕ} → Best (mark test worth) m b x → b ≡ greatest test worth m
+  pub best-done : {m b x : ℕ} → Best (worthOrNone test worth) m b x → b ≡ greatest test worth m
   best-done {m} s = best-only s (found m .1)
 
   -- it is no more than m
@@ -109,14 +109,14 @@ module _ (test : ℕ → Bool) (worth : ℕ → ℕ) where
   greatest-of m a l e =
       let g = greatest test worth m in
       let (x, s) = found m in
-      let above : 0 < x = omega (arith, s .most a l, mark-yes a e) in
-      let passes : test g ≡ true = ⊎-elim (λ n. absurd (omega (arith, s .there, mark-none g n))) (λ y. y) (dichotomy (test g)) in
-      let marked : x ≡ suc (worth g) = s .there ∙ mark-yes g passes in
+      let above : 0 < x = omega (arith, s .most a l, worth-or-none-yes a e) in
+      let passes : test g ≡ true = ⊎-elim (λ n. absurd (omega (arith, s .there, worth-or-none-none g n))) (λ y. y) (dichotomy (test g)) in
+      let marked : x ≡ suc (worth g) = s .there ∙ worth-or-none-yes g passes in
       record {
         upto = s .upto;
         passes = passes;
-        most = λ b h y. omega (arith, s .most b h, mark-yes b y, marked);
-        first = λ b h y. omega (arith, s .first b h, mark-yes b y, marked);
+        most = λ b h y. omega (arith, s .most b h, worth-or-none-yes b y, marked);
+        first = λ b h y. omega (arith, s .first b h, worth-or-none-yes b y, marked);
       }
 
   -- a number that is chosen is the greatest
@@ -124,16 +124,16 @@ module _ (test : ℕ → Bool) (worth : ℕ → ℕ) where
   greatest-only {g = g} c =
       best-done (record {
         upto = c .upto;
-        there = sym (mark-yes g (c .passes));
-        most = λ a l. mark-le a (suc (worth g)) (λ y. omega (arith, c .most a l y));
-        first = λ a l. omega (arith, mark-le a (worth g) (c .first a l));
+        there = sym (worth-or-none-yes g (c .passes));
+        most = λ a l. worth-or-none-le a (suc (worth g)) (λ y. omega (arith, c .most a l y));
+        first = λ a l. omega (arith, worth-or-none-le a (worth g) (c .first a l));
       })
 
   -- where no number up to m passes, it is 0
   pub greatest-none : (m : ℕ) → ((a : ℕ) → a ≤ m → test a ≡ false) → greatest test worth m ≡ 0
   greatest-none m h =
       let (x, s) = found m in
-      let low : ¬ (0 < greatest test worth m) = λ l. omega (arith, s .first 0 l, s .there, mark-none (greatest test worth m) (h _ (s .upto))) in
+      let low : ¬ (0 < greatest test worth m) = λ l. omega (arith, s .first 0 l, s .there, worth-or-none-none (greatest test worth m) (h _ (s .upto))) in
       omega (arith, low)
 
 -- a number where a test holds, and an equal number where an equal test does
@@ -154,7 +154,7 @@ pub greatest-same : (test try : ℕ → Bool) (worth price : ℕ → ℕ) (m : �
 unfolding greatest
 greatest-same test try worth price m same even =
     ap (λ (r : ℕ × ℕ). r .0)
-    (seek-same (mark test worth) (mark try price) m (λ a l. when-same _ _ (test a) (try a) (same a l) (λ y. ap suc (even a l y))))
+    (seek-same (worthOrNone test worth) (worthOrNone try price) m (λ a l. when-same _ _ (test a) (try a) (same a l) (λ y. ap suc (even a l y))))
 
 module _ (chosen : List ℕ) where
   -- a site that is not chosen yet passes, a chosen one fails, and nothing else passes
@@ -171,8 +171,8 @@ module _ (chosen : List ℕ) where
 
   module _ (worth : ℕ → ℕ) where
     -- a scan of the sites starts from none
-    pub unchosen-start : Best (mark (unchosen chosen) worth) 0 0 0
-    unchosen-start = best-start (sym (mark-none (unchosen chosen) worth 0 refl))
+    pub unchosen-start : Best (worthOrNone (unchosen chosen) worth) 0 0 0
+    unchosen-start = best-start (sym (worth-or-none-none (unchosen chosen) worth 0 refl))
 
     -- while fewer than m sites are chosen, there is one to choose
     pub unchosen-greatest : (m : ℕ) → length chosen < m → Chosen (unchosen chosen) worth m (greatest (unchosen chosen) worth m)

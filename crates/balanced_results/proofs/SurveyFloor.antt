@@ -11,10 +11,10 @@ use Rattle.division.specs.Shares.{divisionTotal, sharesOf}
 use Rattle.division.specs.Divide.{divide}
 use Rattle.balanced_plan.specs.Rounds.{State, rounds, evenShare}
 use Rattle.balanced_plan.specs.Floor.{floor}
-use Rattle.balanced_plan.proofs.Evenly.{even-sum, even-crowd}
+use Rattle.balanced_plan.proofs.FloorShares.{even-sum, even-crowd}
 use Rattle.balanced_plan.proofs.Floored.{Ranking, best-floor}
 use Rattle.balanced_results.specs.Plans.{rowKey}
-use Rattle.balanced_results.proofs.Falling.{key-falls}
+use Rattle.balanced_results.proofs.FallingLines.{key-falls}
 
 -- ---- the rounds of a survey
 module _ (n m k : ℕ) (scores rows : List ℕ) where

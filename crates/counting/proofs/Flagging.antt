@@ -11,16 +11,16 @@ use lib.ListN.{length, getD, set, replicate, length-set, length-replicate, getD-
 use lib.Seq.{getD-set-same, getD-set-other}
 use borrow.Author.Tests.{eq-eqb, ne-eqb}
 use Rattle.counting.specs.Lists.{has}
-use Rattle.counting.specs.Marks.{Marks}
+use Rattle.counting.specs.Flags.{Flags}
 use Rattle.counting.proofs.Membership.{has-append}
 
 -- no flag is set, and the list is empty
-pub marks-none : Marks (replicate 256 false) []
-marks-none = record { size = length-replicate 256 false; right = λ x l. getD-replicate 256 x false false l }
+pub flags-none : Flags (replicate 256 false) []
+flags-none = record { size = length-replicate 256 false; right = λ x l. getD-replicate 256 x false false l }
 
 -- a byte behind the list sets its flag
-pub marks-more : (flags : List Bool) (list : List ℕ) (b : ℕ) → b < 256 → Marks flags list → Marks (set flags b true) (list ++ (b ∷ []))
-marks-more flags list b l h =
+pub flags-more : (flags : List Bool) (list : List ℕ) (b : ℕ) → b < 256 → Flags flags list → Flags (set flags b true) (list ++ (b ∷ []))
+flags-more flags list b l h =
     record {
       size = simp length-set (h .size);
       right = λ x small. flag x (h .right x small) (ℕ-discrete x b) ∙ sym (has-append x list (b ∷ []) ∙ ap (λ (t : Bool). has x list || t) (or-false (eqb x b)));

@@ -8,15 +8,15 @@ use Prim.Native.Nat.{ℕ, suc, _≤_, _<_}
 use native.Mathlib.Omega.{arith}
 use lib.ListN.{length-append}
 use Rattle.counting.specs.Lists.{has}
-use Rattle.counting.specs.Sites.{Plan}
+use Rattle.counting.specs.Sites.{Choice}
 use Rattle.counting.proofs.Membership.{has-last, distinct-last}
 
 -- no site is a plan of none
-pub plan-none : {m : ℕ} → Plan m 0 []
+pub plan-none : {m : ℕ} → Choice m 0 []
 plan-none = record { sites = λ a h. absurd (true≢false (sym h)); apart = refl; size = refl }
 
 -- a plan with a new site behind it is a plan
-pub plan-add : {m i : ℕ} {S : List ℕ} → Plan m i S → (a : ℕ) → 0 < a → a ≤ m → has a S ≡ false → Plan m (suc i) (S ++ (a ∷ []))
+pub plan-add : {m i : ℕ} {S : List ℕ} → Choice m i S → (a : ℕ) → 0 < a → a ≤ m → has a S ≡ false → Choice m (suc i) (S ++ (a ∷ []))
 plan-add {S = S} p a low high new =
     record {
       sites = λ b h. ⊎-elim (p .sites b) (λ e. rw e (low, high)) (has-last b a S h);

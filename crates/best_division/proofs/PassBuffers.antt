@@ -9,12 +9,13 @@ use native.Mathlib.Omega.{arith}
 use lib.ListN.{length, take, replicate, length-replicate}
 use Rattle.counting.specs.Lists.{at}
 use Rattle.counting.proofs.Parts.{front-length, back-is}
-use Rattle.division.specs.Shares.{InShares, divisionTotal}
+use Rattle.division.specs.Prices.{Priced}
+use Rattle.division.specs.Shares.{InShares, divisionTotal, shareSum}
 use Rattle.division.specs.Divide.{divide}
-use Rattle.division.specs.Town.{Town}
-use Rattle.division.proofs.Counts.{shareSum, in-length}
+use Rattle.division.specs.Problem.{Problem}
+use Rattle.division.proofs.Counts.{in-length}
 use Rattle.division.proofs.Best.{divide-in, divide-most}
-use Rattle.division.proofs.Dual.{Priced, weak}
+use Rattle.division.proofs.Dual.{weak}
 use Rattle.chains.specs.Chains.{Buffers}
 use Rattle.queues.specs.Queue.{Room}
 
@@ -42,7 +43,7 @@ buffers w low few fits =
 pub room : (w : ℕ) → w ≤ 65 → Room w (replicate 65 0) (replicate 65 0) (replicate 65 0) (replicate 65 false)
 room w few =
     let fits : w ≤ length (replicate {A = ℕ} 65 0) = rw length-replicate few in
-    record { streets-fit = fits; nexts-fit = fits; sites-fit = fits; marks-fit = rw length-replicate few }
+    record { streets-fit = fits; nexts-fit = fits; sites-fit = fits; flags-fit = rw length-replicate few }
 
 -- prices that prove a division best prove its total to be that of the best division
 pub best-total : (v : ℕ → ℕ → ℕ) (d : ℕ → ℕ) (c D : List ℕ) → InShares D c → Priced v d c D → divisionTotal v D ≡ divisionTotal v (divide v (length D) c)
@@ -59,7 +60,7 @@ module _ (w : ℕ) (low rest : List ℕ) (fits : length low ≡ w) where
   back-priced v c D h = rw (back-is w low rest fits) h
 
 -- a town of as many streets
-pub same-town : (values shares D E : List ℕ) → length E ≡ length D → Town values shares (length D) → Town values shares (length E)
+pub same-town : (values shares D E : List ℕ) → length E ≡ length D → Problem values shares (length D) → Problem values shares (length E)
 same-town values shares D E e h = rw e h
 
 -- the best division of as many streets, and its total

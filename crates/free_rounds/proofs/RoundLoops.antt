@@ -15,8 +15,8 @@ use lib.Seq.{getD-set-same, getD-set-other}
 use borrow.Author.Tests.{lt-ltb}
 use Rattle.counting.specs.Words.{_when_, _unless_, sumOf}
 use Rattle.counting.specs.Lists.{at}
-use Rattle.counting.specs.Choice.{mark, greatest}
-use Rattle.counting.proofs.Choice.{Best, best-up, best-keep, best-start, best-done}
+use Rattle.counting.specs.Greatest.{worthOrNone, greatest}
+use Rattle.counting.proofs.Greatest.{Best, best-up, best-keep, best-start, best-done}
 use Rattle.counting.proofs.Sums.{at-past, sumOf-same, sumOf-le, sumOf-even, sumOf-next}
 use Rattle.counting.proofs.Tables.{row-within}
 use Rattle.counting.proofs.Parts.{part, part-length, part-at}
@@ -38,31 +38,31 @@ flagless x true = refl
 flagless x false = add-one x
 
 module _ (worth : ℕ → ℕ) (flags : List Bool) where
-  -- the mark that the code computes is the definition's
-  pub mark-is : (i x r : ℕ) → x ≡ worth (i + 1) → r ≡ (x + 1) unless getD flags (i + 1) false → r ≡ mark (unflagged flags) worth (i + 1)
-  mark-is i x r q e =
+  -- what the code compares a site by is the definition's
+  pub worth-or-none-is : (i x r : ℕ) → x ≡ worth (i + 1) → r ≡ (x + 1) unless getD flags (i + 1) false → r ≡ worthOrNone (unflagged flags) worth (i + 1)
+  worth-or-none-is i x r q e =
       let l : ltb 0 (i + 1) ≡ true = lt-ltb 0 (i + 1) (omega arith) in
       e ∙ ap (λ (y : ℕ). (y + 1) unless getD flags (i + 1) false) q ∙ flagless (worth (i + 1)) (getD flags (i + 1) false)
       ∙ ap (λ (t : Bool). suc (worth (i + 1)) when (t && not (getD flags (i + 1) false))) (sym l)
 
-  pub marks-start : Best (mark (unflagged flags) worth) 0 0 0
+  pub flags-start : Best (worthOrNone (unflagged flags) worth) 0 0 0
   unfolding _when_
-  marks-start = best-start refl
+  flags-start = best-start refl
 
-  pub marks-end : (i m b x : ℕ) → m ≤ i → i ≤ m → Best (mark (unflagged flags) worth) i b x → b ≡ greatest (unflagged flags) worth m
-  marks-end i m b x a l s = best-done (unflagged flags) worth (rw (le-antisymm l a) at s)
+  pub flags-end : (i m b x : ℕ) → m ≤ i → i ≤ m → Best (worthOrNone (unflagged flags) worth) i b x → b ≡ greatest (unflagged flags) worth m
+  flags-end i m b x a l s = best-done (unflagged flags) worth (rw (le-antisymm l a) at s)
 
--- a greater sum has no lower mark
+-- a greater sum is not compared by less
 unless-le : (x y : ℕ) (flag : Bool) → x ≤ y → ((x + 1) unless flag) ≤ ((y + 1) unless flag)
 unfolding _unless_
 unless-le x y true l = omega arith
 unless-le x y false l = omega arith
 
 -- a site that cannot be better than the best so far is passed over
-pub pass-turn : (worth : ℕ → ℕ) (flags : List Bool) (i b y x hope : ℕ) → Best (mark (unflagged flags) worth) i b y → worth (i + 1) ≤ x
-    → hope ≡ (x + 1) unless getD flags (i + 1) false → hope ≤ y → Best (mark (unflagged flags) worth) (i + 1) b y
+pub pass-turn : (worth : ℕ → ℕ) (flags : List Bool) (i b y x hope : ℕ) → Best (worthOrNone (unflagged flags) worth) i b y → worth (i + 1) ≤ x
+    → hope ≡ (x + 1) unless getD flags (i + 1) false → hope ≤ y → Best (worthOrNone (unflagged flags) worth) (i + 1) b y
 pass-turn worth flags i b y x hope s l e k =
-    best-keep s (mark-is worth flags i (worth (i + 1)) _ refl refl)
+    best-keep s (worth-or-none-is worth flags i (worth (i + 1)) _ refl refl)
     (omega (arith, e, unless-le (worth (i + 1)) x (getD flags (i + 1) false) l))
 
 -- ---- the bounds of the sites' rises

@@ -17,13 +17,13 @@ seek f (suc m) =
     cond (ltb (r .1) y) z r
 
 -- 0 where a number does not pass the test, and 1 more than its worth where it does
-abbrev pub mark : (ℕ → Bool) → (ℕ → ℕ) → ℕ → ℕ
-mark test worth a = let w : ℕ = suc (worth a) in w when test a
+abbrev pub worthOrNone : (ℕ → Bool) → (ℕ → ℕ) → ℕ → ℕ
+worthOrNone test worth a = let w : ℕ = suc (worth a) in w when test a
 
 -- of the numbers up to m that pass the test the one of greatest worth, the lowest of equals; 0 where none passes or only 0 does
 unfoldable pub greatest : (ℕ → Bool) → (ℕ → ℕ) → ℕ → ℕ
 unfolding seek _when_
-greatest test worth m = (seek (mark test worth) m) .0
+greatest test worth m = (seek (worthOrNone test worth) m) .0
 
 -- whether a number is a site that is not chosen yet
 abbrev pub unchosen : List ℕ → ℕ → Bool

@@ -8,6 +8,6 @@ use lib.ListN.{length, getD}
 use Rattle.counting.specs.Lists.{has}
 
 -- the flag of each byte says whether it stands in the list
-pub record Marks (flags : List Bool) (list : List ℕ) : Type 0 where
+pub record Flags (flags : List Bool) (list : List ℕ) : Type 0 where
   pub size : length flags ≡ 256
   pub right : (x : ℕ) → x < 256 → getD flags x false ≡ has x list

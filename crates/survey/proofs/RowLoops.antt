@@ -12,9 +12,9 @@ use lib.ListN.{length, getD, take, drop, set}
 use lib.Seq.{take-suc, drop-cons, append-snoc, take-length, drop-length}
 use borrow.Author.Tests.{ne-eqb}
 use Rattle.counting.specs.Lists.{at, has}
-use Rattle.counting.specs.Marks.{Marks}
+use Rattle.counting.specs.Flags.{Flags}
 use Rattle.counting.proofs.Sums.{at-past}
-use Rattle.counting.proofs.Marking.{marks-more}
+use Rattle.counting.proofs.Flagging.{flags-more}
 use Rattle.survey.specs.Rows.{rankedPart, rowOf}
 use Rattle.survey.specs.Refusals.{siteRefusal, byteRefusal}
 
@@ -37,11 +37,11 @@ ranked-all row i e a b q h =
     sym (h′ ∙ rw (take-length, drop-length) (append-nil row))
 
 -- ---- the table of bytes seen so far, after one byte more
-pub seen-more : (row : List ℕ) (seen : List Bool) (j : ℕ) → j < length row → at row j < 256 → Marks seen (take j row) → Marks (set seen (at row j) true) (take (j + 1) row)
-seen-more row seen j l small h = rw (add-one, take-suc row j 0 l) (marks-more seen (take j row) (at row j) small h)
+pub seen-more : (row : List ℕ) (seen : List Bool) (j : ℕ) → j < length row → at row j < 256 → Flags seen (take j row) → Flags (set seen (at row j) true) (take (j + 1) row)
+seen-more row seen j l small h = rw (add-one, take-suc row j 0 l) (flags-more seen (take j row) (at row j) small h)
 
 -- the refusal of a byte, looked up in the table
-pub byte-is : (m : ℕ) (row : List ℕ) (seen : List Bool) (j r : ℕ) → Marks seen (take j row) → at row j < 256 → r ≡ siteRefusal m (getD seen 0 false) (getD seen (at row j) false) (at row j) → r ≡ byteRefusal m row j
+pub byte-is : (m : ℕ) (row : List ℕ) (seen : List Bool) (j r : ℕ) → Flags seen (take j row) → at row j < 256 → r ≡ siteRefusal m (getD seen 0 false) (getD seen (at row j) false) (at row j) → r ≡ byteRefusal m row j
 byte-is m row seen j r h l e =
     e ∙ ap (λ (t : Bool). siteRefusal m t (getD seen (at row j) false) (at row j)) (h .right 0 (lit< tt))
     ∙ ap (λ (t : Bool). siteRefusal m (has 0 (take j row)) t (at row j)) (h .right (at row j) l)

@@ -15,12 +15,12 @@ use borrow.Author.Tests.{not-true}
 use Rattle.counting.specs.Words.{one}
 use Rattle.counting.specs.Lists.{has, distinct, sum, only}
 use Rattle.counting.specs.Buffers.{listOf}
-use Rattle.counting.specs.Sites.{Sites, Plan}
-use Rattle.counting.specs.Choice.{unchosen}
+use Rattle.counting.specs.Sites.{Sites, Choice}
+use Rattle.counting.specs.Greatest.{unchosen}
 use Rattle.counting.proofs.Refusals.{and-both}
 use Rattle.counting.proofs.Membership.{has-head, has-tail, sum-le, sum-two, sum-length, one-more, one-not, distinct-within}
 use Rattle.counting.proofs.Sums.{listOf-length, listOf-at, has-at, has-index}
-use Rattle.counting.proofs.Choice.{unchosen-yes}
+use Rattle.counting.proofs.Greatest.{unchosen-yes}
 use Rattle.counting.proofs.Listed.{has-only, only-has, only-length, only-distinct, sum-even, sum-parts}
 
 -- what is near, counted street by street, is no more than the same counted site by site
@@ -58,7 +58,7 @@ sites-has : (m a : ℕ) → 0 < a → a ≤ m → has a (allSites m) ≡ true
 sites-has m zero l h = absurd (omega arith)
 sites-has m (suc i) l h = rw (listOf-at m suc i h) at (has-at (allSites m) i (omega (arith, listOf-length m suc)))
 
-module _ (m i : ℕ) (chosen : List ℕ) (plan : Plan m i chosen) where
+module _ (m i : ℕ) (chosen : List ℕ) (plan : Choice m i chosen) where
   -- the sites that are left to choose
   abbrev choices : List ℕ
   choices = only (unchosen chosen) (allSites m)
