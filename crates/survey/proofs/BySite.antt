@@ -14,19 +14,20 @@ use Rattle.counting.specs.Lists.{at, cell, has}
 use Rattle.counting.proofs.Sums.{take-next}
 use Rattle.counting.proofs.Tables.{row-within, in-rows, rows-apart}
 use Rattle.counting.proofs.Parts.{part, part-length}
-use Rattle.survey.specs.Rows.{rowOf, rankedPart, placeIn, placeOf}
-use Rattle.survey.specs.Refusals.{mostStreets, mostSites}
+use Rattle.survey.specs.Town.{Town}
+use Rattle.survey.specs.Rows.{rowAt, rankedPart, placeIn, placeOf}
+use Rattle.survey.specs.Refusals.{mostStreets, mostSites, mostEntries}
 use Rattle.survey.specs.Accepted.{SoundRow, Accepted}
 use Rattle.survey.specs.BySite.{Ranked, Room, Unread, Entered}
 use Rattle.survey.proofs.RowLoops.{ranked-stop, ranked-more, ranked-all, row-part}
 use Rattle.survey.proofs.Places.{place-none, place-new, place-old}
 
 -- an accepted survey's rows rank the sites
-pub ranked : (n m : ℕ) (scores rows : List ℕ) → Accepted n m scores rows → Ranked n m rows
-ranked n m scores rows ok = record { few-streets = ok .few-streets; few-sites = ok .few-sites; rows-fit = ok .rows-fit; sound-rows = ok .sound-rows }
+pub ranked : {t : Town} → Accepted t → Ranked (t .n) (t .m) (t .rows)
+ranked ok = record { few-streets = ok .few-streets; few-sites = ok .few-sites; rows-fit = ok .rows-fit; sound-rows = ok .sound-rows }
 
 -- a table with an entry for each street and each of the sites 0, 1, .., m is not long
-pub table-small : (n m : ℕ) → n ≤ mostStreets → m ≤ mostSites → (m + 1) * n ≤ 26000
+pub table-small : (n m : ℕ) → n ≤ mostStreets → m ≤ mostSites → (m + 1) * n ≤ mostEntries
 table-small n m few few-sites = mul-le-mul {n₁ = m + 1} {m₁ = n} {n₂ = 65} {m₂ = 400} (omega arith) few
 
 -- ---- one street
@@ -58,7 +59,7 @@ module _ {f : ℕ → ℕ} {n s : ℕ} {row before table : List ℕ} {j : ℕ} (
   passed-room l = omega (arith, in-rows (at row j) (length row + 1) n s (omega (arith, ok .named j l)) (room .street), room .size, p .size)
 
   -- the table is not long
-  pub passed-size : length table ≤ 26000
+  pub passed-size : length table ≤ mostEntries
   passed-size = omega (arith, table-small n (length row) (room .few-streets) (room .few-sites), room .size, p .size)
 
   -- a site gets the entry of the next place, and every other site keeps its own
@@ -101,7 +102,7 @@ module _ {f : ℕ → ℕ} {n s : ℕ} {row before table : List ℕ} {j : ℕ} (
 -- the loop over the streets has filled the entries of the first s, and no other row is read yet
 pub record Filled (f : ℕ → ℕ) (n m : ℕ) (rows table : List ℕ) (s : ℕ) : Type 0 where
   pub size : length table ≡ (m + 1) * n
-  pub done : (a t : ℕ) → a ≤ m → t < s → t < n → cell table n a t ≡ f (placeOf (rowOf m rows t) a)
+  pub done : (a t : ℕ) → a ≤ m → t < s → t < n → cell table n a t ≡ f (placeOf (rowAt m rows t) a)
   pub rest : (t : ℕ) → s ≤ t → t < n → Unread f n t m table
 
 -- it starts with the entry of no place everywhere
@@ -116,7 +117,7 @@ filled-none f n m rows table e h =
 
 -- it ends with the whole table
 pub filled-all : {f : ℕ → ℕ} {n m : ℕ} {rows table : List ℕ} {s : ℕ} → n ≤ s → Filled f n m rows table s
-    → (a t : ℕ) → a ≤ m → t < n → cell table n a t ≡ f (placeOf (rowOf m rows t) a)
+    → (a t : ℕ) → a ≤ m → t < n → cell table n a t ≡ f (placeOf (rowAt m rows t) a)
 filled-all h p a t l u = p .done a t l (omega arith) u
 
 module _ {n m : ℕ} {rows : List ℕ} {s : ℕ} (ok : Ranked n m rows) (l : s < n) where
@@ -151,5 +152,5 @@ module _ {n m : ℕ} {rows : List ℕ} {s : ℕ} (ok : Ranked n m rows) (l : s <
           rest = λ t v w a u. k .others a t w (λ q. omega arith) ∙ p .rest t (omega arith) w a u;
         }
       where
-        own : (a : ℕ) → a ≤ m → cell after n a s ≡ f (placeOf (rowOf m rows s) a)
+        own : (a : ℕ) → a ≤ m → cell after n a s ≡ f (placeOf (rowAt m rows s) a)
         own a u = k .own a (omega (arith, row-length)) ∙ ap (λ (row : List ℕ). f (placeOf row a)) (row-part m rows s)

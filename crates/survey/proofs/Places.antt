@@ -17,7 +17,8 @@ use Rattle.counting.specs.Lists.{at, has}
 use Rattle.counting.proofs.Refusals.{or-pass, or-none, or-neither, when-yes, when-none, when-zero, when-some, unless-yes, unless-none, first-none, first-found, first-find, first-same, first-zeros}
 use Rattle.counting.proofs.Membership.{cond-at, has-none}
 use Rattle.counting.proofs.Sums.{has-at, at-past}
-use Rattle.survey.specs.Rows.{rankedPart, placeAt, placeIn, scoreAt, value, rowOf}
+use Rattle.survey.specs.Town.{Town}
+use Rattle.survey.specs.Rows.{rankedPart, placeAt, placeIn, scoreAt, rowOf, listOfStreet, streetPlace, value}
 use Rattle.survey.specs.Refusals.{topScore}
 use Rattle.survey.specs.Accepted.{SoundScores, Accepted}
 
@@ -131,11 +132,10 @@ ranked-sites (b ∷ row) =
     (λ e. or-neither (eqb 0 b) (has 0 (rankedPart row)) (ne-eqb 0 b (λ z. eqb-false b 0 e (sym z))) (ranked-sites row))
 
 -- no value is above the top score
-pub valued-bound : {n m : ℕ} {scores rows : List ℕ} → Accepted n m scores rows → (s a : ℕ) → value m scores rows s a ≤ topScore
-valued-bound {m = m} {scores = scores} {rows = rows} ok s a = score-bound scores (placeIn (rankedPart (rowOf m rows s)) a) (ok .sound-scores)
+pub valued-bound : {t : Town} → Accepted t → (s a : ℕ) → value t s a ≤ topScore
+valued-bound {t} ok s a = score-bound (t .scores) (streetPlace t s a) (ok .sound-scores)
 
 -- the site 0, that is none, has the value 0
-pub valued-zero : (m : ℕ) (scores rows : List ℕ) (s : ℕ) → value m scores rows s 0 ≡ 0
-valued-zero m scores rows s =
-    let ranked = rankedPart (rowOf m rows s) in
-    ap (λ (x : ℕ). scoreAt scores x) (place-none ranked 0 (ranked-sites (rowOf m rows s))) ∙ score-none scores
+pub valued-zero : (t : Town) (s : ℕ) → value t s 0 ≡ 0
+valued-zero t s =
+    ap (λ (x : ℕ). scoreAt (t .scores) x) (place-none (listOfStreet t s) 0 (ranked-sites (rowOf t s))) ∙ score-none (t .scores)

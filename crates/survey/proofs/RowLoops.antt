@@ -15,7 +15,7 @@ use Rattle.counting.specs.Lists.{at, has}
 use Rattle.counting.specs.Flags.{Flags}
 use Rattle.counting.proofs.Sums.{at-past}
 use Rattle.counting.proofs.Flagging.{flags-more}
-use Rattle.survey.specs.Rows.{rankedPart, rowOf}
+use Rattle.survey.specs.Rows.{rankedPart, rowAt}
 use Rattle.survey.specs.Refusals.{siteRefusal, byteRefusal}
 
 -- ---- the ranked part, found by a loop that has passed the first i bytes of a row
@@ -47,7 +47,7 @@ byte-is m row seen j r h l e =
     ∙ ap (λ (t : Bool). siteRefusal m (has 0 (take j row)) t (at row j)) (h .right (at row j) l)
 
 -- ---- parts of the flat buffer
-pub row-part : (m : ℕ) (rows : List ℕ) (i : ℕ) → take (i * m + m - i * m) (drop (i * m) rows) ≡ rowOf m rows i
+pub row-part : (m : ℕ) (rows : List ℕ) (i : ℕ) → take (i * m + m - i * m) (drop (i * m) rows) ≡ rowAt m rows i
 row-part m rows i = ap (λ (z : ℕ). take z (drop (i * m) rows)) (add-sub-cancel-left (i * m) m)
 
 -- a place past the scores scores 0

@@ -13,6 +13,7 @@ use borrow.Author.Tests.{ltb-false, lt-ltb, le-ltb, eq-eqb, ne-eqb}
 use Rattle.counting.specs.Words.{_when_, _orElse_}
 use Rattle.counting.specs.Lists.{at, has}
 use Rattle.counting.proofs.Refusals.{skip, or-zero, when-none, when-zero, unless-none, unless-is, within, exact, first-none, first-zeros}
+use Rattle.survey.specs.Town.{Town}
 use Rattle.survey.specs.Rows.{rowOf}
 use Rattle.survey.specs.Refusals.{scoreRefusal, scoresRefusal, siteRefusal, byteRefusal, rowRefusal, streetRefusal, rowsRefusal, lengthRefusal, streetsRefusal, sitesRefusal, chosenRefusal, surveyRefusal}
 use Rattle.survey.specs.Accepted.{SoundRow, SoundScores, Accepted}
@@ -68,39 +69,46 @@ pub row-accepted : (m : ℕ) (row : List ℕ) → SoundRow m row → rowRefusal 
 row-accepted m row sound =
     first-zeros (length row) (byteRefusal m row) (λ j l. site-accepted m _ _ (at row j) (λ p. (sound .closed j l p, sound .named j l, sound .once j l p)))
 
-module _ (n m k own : ℕ) (scores rows : List ℕ) (e : surveyRefusal n m k own scores rows ≡ 0) where
-  -- the tries behind the first two, behind 3, and so on
-  past-sites : chosenRefusal k m orElse own orElse lengthRefusal (length scores) m orElse lengthRefusal (length rows) (n * m) orElse scoresRefusal scores orElse rowsRefusal n m rows ≡ 0
-  past-sites = or-zero (sitesRefusal m) _ (or-zero (streetsRefusal n) _ e .1) .1
+module _ (t : Town) (k own : ℕ) (e : surveyRefusal t k own ≡ 0) where
+  -- the tries behind the sizes, behind the call's own, and behind the lengths
+  abbrev past-lengths : ℕ
+  past-lengths = scoresRefusal (t .scores) orElse rowsRefusal (t .n) (t .m) (t .rows)
 
-  past-sizes : own orElse lengthRefusal (length scores) m orElse lengthRefusal (length rows) (n * m) orElse scoresRefusal scores orElse rowsRefusal n m rows ≡ 0
-  past-sizes = or-zero (chosenRefusal k m) _ past-sites .1
+  abbrev past-own : ℕ
+  past-own = lengthRefusal (length (t .scores)) (t .m) orElse lengthRefusal (length (t .rows)) (t .n * t .m) orElse past-lengths
 
-  past-own : lengthRefusal (length scores) m orElse lengthRefusal (length rows) (n * m) orElse scoresRefusal scores orElse rowsRefusal n m rows ≡ 0
-  past-own = or-zero own _ past-sizes .1
+  sites-on : (sitesRefusal (t .m) ≡ 0) × (chosenRefusal k (t .m) orElse own orElse past-own ≡ 0)
+  sites-on = or-zero (sitesRefusal (t .m)) _ (or-zero (streetsRefusal (t .n)) _ e .1)
 
-  past-lengths : scoresRefusal scores orElse rowsRefusal n m rows ≡ 0
-  past-lengths = or-zero (lengthRefusal (length rows) (n * m)) _ (or-zero (lengthRefusal (length scores) m) _ past-own .1) .1
+  chosen-on : (chosenRefusal k (t .m) ≡ 0) × (own orElse past-own ≡ 0)
+  chosen-on = or-zero (chosenRefusal k (t .m)) _ (sites-on .1)
+
+  scores-on : (lengthRefusal (length (t .scores)) (t .m) ≡ 0) × (lengthRefusal (length (t .rows)) (t .n * t .m) orElse past-lengths ≡ 0)
+  scores-on = or-zero (lengthRefusal (length (t .scores)) (t .m)) _ (or-zero own _ (chosen-on .1) .1)
+
+  rows-on : (lengthRefusal (length (t .rows)) (t .n * t .m) ≡ 0) × (past-lengths ≡ 0)
+  rows-on = or-zero (lengthRefusal (length (t .rows)) (t .n * t .m)) past-lengths (scores-on .1)
 
   -- what the call tried besides refuses nothing either
   pub own-accepted : own ≡ 0
-  own-accepted = or-zero own _ past-sizes .0
+  own-accepted = or-zero own _ (chosen-on .1) .0
 
   -- the number of sites to choose is one of 1 to m
-  pub chosen-within : (1 ≤ k) × (k ≤ m)
-  chosen-within = within 3 k 1 m (lit< tt) (or-zero (chosenRefusal k m) _ past-sites .0)
+  pub chosen-within : (1 ≤ k) × (k ≤ t .m)
+  chosen-within = within 3 k 1 (t .m) (lit< tt) (chosen-on .0)
 
-  pub accepted : Accepted n m scores rows
+  pub accepted : Accepted t
   accepted =
-      let streets = within 1 n 1 400 (lit< tt) (or-zero (streetsRefusal n) _ e .0) in
-      let sites = within 2 m 1 64 (lit< tt) (or-zero (sitesRefusal m) _ (or-zero (streetsRefusal n) _ e .1) .0) in
+      let streets = within 1 (t .n) 1 400 (lit< tt) (or-zero (streetsRefusal (t .n)) _ e .0) in
+      let sites = within 2 (t .m) 1 64 (lit< tt) (sites-on .0) in
+      let bytes = or-zero (scoresRefusal (t .scores)) (rowsRefusal (t .n) (t .m) (t .rows)) (rows-on .1) in
       record {
         some-street = streets .0;
         few-streets = streets .1;
         some-site = sites .0;
         few-sites = sites .1;
-        scores-fit = exact 6 (length scores) m (lit< tt) (or-zero (lengthRefusal (length scores) m) _ past-own .0);
-        rows-fit = exact 6 (length rows) (n * m) (lit< tt) (or-zero (lengthRefusal (length rows) (n * m)) _ (or-zero (lengthRefusal (length scores) m) _ past-own .1) .0);
-        sound-scores = sound-scores scores (or-zero (scoresRefusal scores) _ past-lengths .0);
-        sound-rows = λ s l. sound-row m (rowOf m rows s) (first-none n (streetRefusal m rows) (or-zero (scoresRefusal scores) _ past-lengths .1) s l);
+        scores-fit = exact 6 (length (t .scores)) (t .m) (lit< tt) (scores-on .0);
+        rows-fit = exact 6 (length (t .rows)) (t .n * t .m) (lit< tt) (rows-on .0);
+        sound-scores = sound-scores (t .scores) (bytes .0);
+        sound-rows = λ s l. sound-row (t .m) (rowOf t s) (first-none (t .n) (streetRefusal (t .m) (t .rows)) (bytes .1) s l);
       }

@@ -6,6 +6,7 @@ use mathlib.Core.Bool.{false}
 use mathlib.Core.List.{List}
 use lib.ListN.{length, take}
 use Rattle.counting.specs.Lists.{at, has}
+use Rattle.survey.specs.Town.{Town}
 use Rattle.survey.specs.Rows.{rowOf}
 use Rattle.survey.specs.Refusals.{mostStreets, mostSites, topScore}
 
@@ -20,13 +21,13 @@ pub record SoundScores (scores : List ℕ) : Type 0 where
   pub top : (i : ℕ) → i < length scores → at scores i ≤ topScore
   pub falling : (i : ℕ) → 0 < i → i < length scores → at scores i ≤ at scores (i - 1)
 
--- of the survey
-pub record Accepted (n m : ℕ) (scores rows : List ℕ) : Type 0 where
-  pub some-street : 1 ≤ n
-  pub few-streets : n ≤ mostStreets
-  pub some-site : 1 ≤ m
-  pub few-sites : m ≤ mostSites
-  pub scores-fit : length scores ≡ m
-  pub rows-fit : length rows ≡ n * m
-  pub sound-scores : SoundScores scores
-  pub sound-rows : (s : ℕ) → s < n → SoundRow m (rowOf m rows s)
+-- of the town
+pub record Accepted (t : Town) : Type 0 where
+  pub some-street : 1 ≤ t .n
+  pub few-streets : t .n ≤ mostStreets
+  pub some-site : 1 ≤ t .m
+  pub few-sites : t .m ≤ mostSites
+  pub scores-fit : length (t .scores) ≡ t .m
+  pub rows-fit : length (t .rows) ≡ t .n * t .m
+  pub sound-scores : SoundScores (t .scores)
+  pub sound-rows : (s : ℕ) → s < t .n → SoundRow (t .m) (rowOf t s)

@@ -7,7 +7,7 @@ use mathlib.Core.List.{List}
 use Prim.Native.Nat.{ℕ, _+_, _*_, _≤_, _<_}
 use lib.ListN.{length}
 use Rattle.counting.specs.Lists.{cell}
-use Rattle.survey.specs.Rows.{rowOf, placeOf}
+use Rattle.survey.specs.Rows.{rowAt, placeOf}
 use Rattle.survey.specs.Refusals.{mostStreets, mostSites}
 use Rattle.survey.specs.Accepted.{SoundRow}
 
@@ -16,7 +16,7 @@ pub record Ranked (n m : ℕ) (rows : List ℕ) : Type 0 where
   pub few-streets : n ≤ mostStreets
   pub few-sites : m ≤ mostSites
   pub rows-fit : length rows ≡ n * m
-  pub sound-rows : (s : ℕ) → s < n → SoundRow m (rowOf m rows s)
+  pub sound-rows : (s : ℕ) → s < n → SoundRow m (rowAt m rows s)
 
 -- a street of the table, and a table that fits
 pub record Room (n s m : ℕ) (table : List ℕ) : Type 0 where

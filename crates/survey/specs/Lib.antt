@@ -1,3 +1,4 @@
+pub mod Town
 pub mod Rows
 pub mod Refusals
 pub mod Accepted

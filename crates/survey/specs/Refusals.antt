@@ -7,7 +7,8 @@ use lib.Dec.{ltb, eqb}
 use lib.ListN.{length, take}
 use Rattle.counting.specs.Words.{_when_, _unless_, _orElse_, firstOf, outside}
 use Rattle.counting.specs.Lists.{at, has}
-use Rattle.survey.specs.Rows.{rowOf}
+use Rattle.survey.specs.Town.{Town}
+use Rattle.survey.specs.Rows.{rowAt}
 
 -- the bounds of a survey: streets, sites, and the greatest score
 abbrev pub mostStreets : ℕ
@@ -18,6 +19,14 @@ mostSites = 64
 
 abbrev pub topScore : ℕ
 topScore = 1000
+
+-- the longest rows: mostStreets times mostSites bytes
+abbrev pub mostRows : ℕ
+mostRows = 25600
+
+-- the longest table with an entry for each street and each of the sites 0, 1, .., m: mostStreets times (mostSites + 1)
+abbrev pub mostEntries : ℕ
+mostEntries = 26000
 
 -- 1: the number of streets
 abbrev pub streetsRefusal : ℕ → ℕ
@@ -68,22 +77,22 @@ byteRefusal m row j = siteRefusal m (has 0 (take j row)) (has (at row j) (take j
 abbrev pub rowRefusal : ℕ → List ℕ → ℕ
 rowRefusal m row = firstOf (length row) (byteRefusal m row)
 
--- the row of the street i
+-- the row at the index i
 abbrev pub streetRefusal : ℕ → List ℕ → ℕ → ℕ
-streetRefusal m rows i = rowRefusal m (rowOf m rows i)
+streetRefusal m rows i = rowRefusal m (rowAt m rows i)
 
 -- the rows, by street and byte
 abbrev pub rowsRefusal : ℕ → ℕ → List ℕ → ℕ
 rowsRefusal n m rows = firstOf n (streetRefusal m rows)
 
 -- a survey with k sites to be chosen, in document 01's order; `own` is what a call tries besides between 3 and 8: 4, 5, and 6 for its other buffers
-abbrev pub surveyRefusal : ℕ → ℕ → ℕ → ℕ → List ℕ → List ℕ → ℕ
-surveyRefusal n m k own scores rows =
-    streetsRefusal n orElse
-    sitesRefusal m orElse
-    chosenRefusal k m orElse
+abbrev pub surveyRefusal : Town → ℕ → ℕ → ℕ
+surveyRefusal t k own =
+    streetsRefusal (t .n) orElse
+    sitesRefusal (t .m) orElse
+    chosenRefusal k (t .m) orElse
     own orElse
-    lengthRefusal (length scores) m orElse
-    lengthRefusal (length rows) (n * m) orElse
-    scoresRefusal scores orElse
-    rowsRefusal n m rows
+    lengthRefusal (length (t .scores)) (t .m) orElse
+    lengthRefusal (length (t .rows)) (t .n * t .m) orElse
+    scoresRefusal (t .scores) orElse
+    rowsRefusal (t .n) (t .m) (t .rows)

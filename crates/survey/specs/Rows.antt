@@ -1,5 +1,4 @@
 -- The survey, as document 01 has it under 'The survey': rows, places, scores, and the value of a site for a street.
--- A survey is n, m, the list of m scores and the list of n times m row bytes. Streets are counted from 0 here, sites from 1.
 -- Assumes nothing.
 use Prim.Native.Nat.{ℕ, zero, suc, _+_, _-_, _*_, min}
 use mathlib.Core.Bool.{cond}
@@ -8,19 +7,16 @@ use lib.Dec.{eqb}
 use lib.ListN.{length, take, drop}
 use Rattle.counting.specs.Words.{_when_, _unless_, firstOf}
 use Rattle.counting.specs.Lists.{at}
+use Rattle.survey.specs.Town.{Town}
 
--- the row of the street i: m bytes
-abbrev pub rowOf : ℕ → List ℕ → ℕ → List ℕ
-rowOf m rows i = take m (drop (i * m) rows)
+-- the row at the index i of a buffer of rows of m bytes
+abbrev pub rowAt : ℕ → List ℕ → ℕ → List ℕ
+rowAt m rows i = take m (drop (i * m) rows)
 
 -- the ranked part of a row: all that stands before the first zero
 abbrev pub rankedPart : List ℕ → List ℕ
 rankedPart [] = []
 rankedPart (b ∷ rest) = let more : List ℕ = b ∷ rankedPart rest in cond (eqb b 0) [] more
-
--- the list of the street i: the sites that it ranked, best first
-abbrev pub listOfStreet : ℕ → List ℕ → ℕ → List ℕ
-listOfStreet m rows i = rankedPart (rowOf m rows i)
 
 -- j + 1 where the site stands at the index j, else 0
 abbrev pub placeAt : List ℕ → ℕ → ℕ → ℕ
@@ -42,11 +38,28 @@ placeOf row site = placeIn (rankedPart row) site
 abbrev pub scoreOf : List ℕ → List ℕ → ℕ → ℕ
 scoreOf scores row site = scoreAt scores (placeOf row site)
 
+-- ---- of a town
+-- the row of a street
+abbrev pub rowOf : Town → ℕ → List ℕ
+rowOf t street = rowAt (t .m) (t .rows) street
+
+-- the list of a street: the sites that it ranked, best first
+abbrev pub listOfStreet : Town → ℕ → List ℕ
+listOfStreet t street = rankedPart (rowOf t street)
+
+-- the place that a street gives a site
+abbrev pub streetPlace : Town → ℕ → ℕ → ℕ
+streetPlace t street site = placeOf (rowOf t street) site
+
 -- the value `v street site` of the theory: the score that the street gives the site
-abbrev pub value : ℕ → List ℕ → List ℕ → ℕ → ℕ → ℕ
-value m scores rows street site = scoreOf scores (rowOf m rows street) site
+abbrev pub value : Town → ℕ → ℕ → ℕ
+value t street site = scoreOf (t .scores) (rowOf t street) site
 
 -- the length of the shortest of the first n lists; no list is longer than m
-abbrev pub shortest : ℕ → ℕ → List ℕ → ℕ
-shortest zero m rows = m
-shortest (suc n) m rows = min (shortest n m rows) (length (listOfStreet m rows n))
+abbrev pub shortestOf : ℕ → Town → ℕ
+shortestOf zero t = t .m
+shortestOf (suc n) t = min (shortestOf n t) (length (listOfStreet t n))
+
+-- the length of the shortest list
+abbrev pub shortest : Town → ℕ
+shortest t = shortestOf (t .n) t

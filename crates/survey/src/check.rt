@@ -5,6 +5,7 @@ ghost use mathlib.Core.Path.{_≡_};
 ghost use Prim.Native.Nat.{_+_, _*_, _≤_, _<_};
 ghost use lib.ListN.{length};
 ghost use Rattle.survey.specs.Bits.{SiteBits};
+ghost use Rattle.survey.specs.Town.{town};
 ghost use Rattle.survey.specs.Refusals.{mostSites, scoreRefusal, scoresRefusal, siteRefusal, rowRefusal, streetRefusal, rowsRefusal, surveyRefusal};
 
 // 8: one score.
@@ -107,7 +108,7 @@ pub fn rows_refusal(n: usize, m: usize, rows: &[u8]) -> u8
 
 // A survey with k sites to be chosen; `own` is what the call tries besides between 3 and 8.
 pub fn survey_refusal(n: usize, m: usize, k: usize, own: u8, scores: &[u16], rows: &[u8]) -> u8
-    ensures { λ r. ⌜ r ≡ surveyRefusal n m k own (now (scores .entry)) (now (rows .entry)) ⌝ }
+    ensures { λ r. ⌜ r ≡ surveyRefusal (town n m scores rows) k own ⌝ }
 {
     if n < 1 {
         return 1;

@@ -1,7 +1,7 @@
 // The survey: its bounds, its rows and scores, and what is turned down in it.
 ghost use mathlib.Core.Path.{_≡_};
 ghost use lib.ListN.{replicate};
-ghost use Rattle.survey.specs.Refusals.{mostStreets, mostSites, topScore};
+ghost use Rattle.survey.specs.Refusals.{mostStreets, mostSites, topScore, mostRows};
 
 pub mod check;
 mod quick;
@@ -31,7 +31,7 @@ impl Survey {
     // The first, empty state: no street, no site, and nothing ranked.
     pub fn empty() -> Self
         ensures sizes { λ r. ⌜ (r .n ≡ 0) × (r .m ≡ 0) × (r .k ≡ 0) × (r .kind ≡ 0) ⌝ }
-        ensures buffers { λ r. ⌜ (r .scores ≡ replicate mostSites 0) × (r .rows ≡ replicate 25600 0) ⌝ }
+        ensures buffers { λ r. ⌜ (r .scores ≡ replicate mostSites 0) × (r .rows ≡ replicate mostRows 0) ⌝ }
         ensures bounds { λ _. do ⌜ ((← ⟦Survey::STREETS⟧ .entry) ≡ mostStreets) × ((← ⟦Survey::SITES⟧ .entry) ≡ mostSites) × ((← ⟦Survey::TOP_SCORE⟧ .entry) ≡ topScore) ⌝ }
     {
         Self {
