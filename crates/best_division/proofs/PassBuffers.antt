@@ -7,6 +7,7 @@ use Prim.Native.Nat.{ℕ, _+_, _*_, _≤_}
 use native.Mathlib.Nat.{mul-le-mul-right, le-antisymm}
 use native.Mathlib.Omega.{arith}
 use lib.ListN.{length, take, replicate, length-replicate}
+use Rattle.counting.specs.Bounds.{mostWidth, mostPrice}
 use Rattle.counting.specs.Lists.{at}
 use Rattle.counting.proofs.Parts.{front-length, back-is}
 use Rattle.division.specs.Prices.{Priced}
@@ -19,30 +20,37 @@ use Rattle.division.proofs.Dual.{weak}
 use Rattle.chains.specs.Chains.{Buffers}
 use Rattle.queues.specs.Queue.{Room}
 
--- the tables of at most 65 sites are small
-pub areas : (w : ℕ) → w ≤ 65 → (w * w ≤ 4225) × ((w + 1) * w ≤ 4290)
-areas w few = (omega (arith, mul-le-mul-right {m = w} {n = 65} w few), omega (arith, mul-le-mul-right {m = w} {n = 65} w few))
+-- the cells of a table of a row and a column for each of the most sites, and of one of a row more
+abbrev pub mostArea : ℕ
+mostArea = mostWidth * mostWidth
+
+abbrev pub mostAreas : ℕ
+mostAreas = (mostWidth + 1) * mostWidth
+
+-- the tables of at most as many sites are small
+pub areas : (w : ℕ) → w ≤ mostWidth → (w * w ≤ mostArea) × ((w + 1) * w ≤ mostAreas)
+areas w few = (omega (arith, mul-le-mul-right {m = w} {n = mostWidth} w few), omega (arith, mul-le-mul-right {m = w} {n = mostWidth} w few))
 
 -- the improving loop's buffers fit
-pub buffers : (w : ℕ) (low : List ℕ) → w ≤ 65 → length low ≡ w
-    → Buffers w low (take ((w + 1) * w) (replicate 4290 0)) (take (w * w) (replicate 4225 0)) (take (w * w) (replicate 4225 0))
-    (take (w * w) (replicate 4225 0)) (take w (replicate 65 0)) (take (w + 1) (replicate 66 0))
+pub buffers : (w : ℕ) (low : List ℕ) → w ≤ mostWidth → length low ≡ w
+    → Buffers w low (take ((w + 1) * w) (replicate mostAreas 0)) (take (w * w) (replicate mostArea 0)) (take (w * w) (replicate mostArea 0))
+    (take (w * w) (replicate mostArea 0)) (take w (replicate mostWidth 0)) (take (w + 1) (replicate (mostWidth + 1) 0))
 buffers w low few fits =
     let (area, all) = areas w few in
     record {
       low-fits = fits;
-      prices-fit = front-length ((w + 1) * w) 4290 all;
-      vias-fit = front-length (w * w) 4225 area;
-      pairs-fit = front-length (w * w) 4225 area;
-      gains-fit = front-length (w * w) 4225 area;
-      streets-fit = front-length w 65 few;
-      sites-fit = front-length (w + 1) 66 (omega arith);
+      prices-fit = front-length ((w + 1) * w) mostAreas all;
+      vias-fit = front-length (w * w) mostArea area;
+      pairs-fit = front-length (w * w) mostArea area;
+      gains-fit = front-length (w * w) mostArea area;
+      streets-fit = front-length w mostWidth few;
+      sites-fit = front-length (w + 1) (mostWidth + 1) (omega arith);
     }
 
 -- so do the tie pass's
-pub room : (w : ℕ) → w ≤ 65 → Room w (replicate 65 0) (replicate 65 0) (replicate 65 0) (replicate 65 false)
+pub room : (w : ℕ) → w ≤ mostWidth → Room w (replicate mostWidth 0) (replicate mostWidth 0) (replicate mostWidth 0) (replicate mostWidth false)
 room w few =
-    let fits : w ≤ length (replicate {A = ℕ} 65 0) = rw length-replicate few in
+    let fits : w ≤ length (replicate {A = ℕ} mostWidth 0) = rw length-replicate few in
     record { streets-fit = fits; nexts-fit = fits; sites-fit = fits; flags-fit = rw length-replicate few }
 
 -- prices that prove a division best prove its total to be that of the best division
@@ -53,15 +61,15 @@ best-total v d c D i p =
 
 -- prices in the front of a buffer that came back are as they were left
 module _ (w : ℕ) (low rest : List ℕ) (fits : length low ≡ w) where
-  pub back-bound : ((a : ℕ) → at low a ≤ 1000000000) → (a : ℕ) → at (take w (low ++ rest)) a ≤ 1000000000
+  pub back-bound : ((a : ℕ) → at low a ≤ mostPrice) → (a : ℕ) → at (take w (low ++ rest)) a ≤ mostPrice
   back-bound h a = rw (back-is w low rest fits) (h a)
 
   pub back-priced : (v : ℕ → ℕ → ℕ) (c D : List ℕ) → Priced v (at low) c D → Priced v (at (take w (low ++ rest))) c D
   back-priced v c D h = rw (back-is w low rest fits) h
 
--- a town of as many streets
-pub same-town : (values shares D E : List ℕ) → length E ≡ length D → Problem values shares (length D) → Problem values shares (length E)
-same-town values shares D E e h = rw e h
+-- a problem of as many streets
+pub same-problem : {values shares : List ℕ} (D E : List ℕ) → length E ≡ length D → Problem values shares (length D) → Problem values shares (length E)
+same-problem D E e h = rw e h
 
 -- the best division of as many streets, and its total
 pub given-back : (v : ℕ → ℕ → ℕ) (d : ℕ → ℕ) (c D E F : List ℕ) (t : ℕ) → length E ≡ length D → t ≡ divisionTotal v E → InShares E c → Priced v d c E

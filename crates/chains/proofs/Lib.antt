@@ -1,5 +1,5 @@
 pub mod Search
+pub mod Improving
 pub mod Gains
 pub mod SearchLoops
 pub mod Layered
-pub mod Improving

@@ -1,45 +1,41 @@
 -- Laws of the search's loops: what they hold from turn to turn and at their ends.
 -- Assumes nothing.
 use mathlib.Core.Path.{_≡_, refl, ap, _∙_}
-use mathlib.Core.Logic.{⊎-elim, by-cases}
+use mathlib.Core.Logic.{⊎-elim}
 use mathlib.Core.List.{List, _++_}
 use Prim.Native.Nat.{ℕ, _+_, _≤_, _<_}
 use native.Mathlib.Nat.{eq-or-lt-of-le}
 use native.Mathlib.Numerals.{add-one}
-use native.Mathlib.Decide.{decLt}
 use native.Mathlib.Omega.{arith}
-use lib.ListN.{length, take, List·getD-append}
+use lib.ListN.{length, take, replicate, length-replicate, List·getD-append}
 use lib.Seq.{take-length}
 use Rattle.counting.specs.Lists.{at}
-use Rattle.counting.specs.Buffers.{Mapped}
-use Rattle.counting.proofs.Sums.{at-past}
+use Rattle.buffers.proofs.Copying.{filled-at}
 use Rattle.division.specs.Shares.{divisionTotal}
 use Rattle.division.proofs.Counts.{divisionTotal-suc}
 use Rattle.chains.specs.Chains.{Raised}
 
--- a list that is filled with 0 to its end holds 0 at each index
-pub cleared : (before now : List ℕ) (n : ℕ) → length before ≤ n → Mapped (λ j x. 0) before now n → (i : ℕ) → at now i ≡ 0
-cleared before now n l h i = by-cases (decLt i n) (h .done i) (λ o. at-past now i (omega (arith, h .size)))
-
--- the front of a list is what was put there
-pub front-at : (front rest : List ℕ) (b : ℕ) → b < length front → ((i : ℕ) → at front i ≡ 0) → at (front ++ rest) b ≡ 0
-front-at front rest b l h = List·getD-append front rest 0 b l ∙ h b
+-- the front of a list that was cleared holds 0
+pub front-cleared : (front rest : List ℕ) (n : ℕ) → front ≡ replicate n 0 → (b : ℕ) → b < n → at (front ++ rest) b ≡ 0
+front-cleared front rest n e b l =
+    let long : length front ≡ n = rw e (length-replicate n 0) in
+    List·getD-append front rest 0 b (omega arith) ∙ filled-at 0 front n e b
 
 -- no site is looked at yet
-pub raised-start : (via : ℕ → ℕ) (n w : ℕ) → Raised via n w 0 w
-raised-start via n w = record { within = omega arith; some = λ l. absurd (omega arith); none = λ l b m. absurd (omega arith) }
+pub raised-start : {via : ℕ → ℕ} {n w : ℕ} → Raised via n w 0 w
+raised-start = record { within = omega arith; some = λ l. absurd (omega arith); none = λ l b m. absurd (omega arith) }
 
 -- a site that was not raised changes nothing
-pub raised-skip : (via : ℕ → ℕ) (n w b r : ℕ) → n ≤ via b → Raised via n w b r → Raised via n w (b + 1) r
-raised-skip via n w b r not h = record {
+pub raised-skip : {via : ℕ → ℕ} {n w b r : ℕ} → n ≤ via b → Raised via n w b r → Raised via n w (b + 1) r
+raised-skip {b = b} not h = record {
   within = h .within;
   some = h .some;
   none = λ l x m. let o : x ≤ b = omega arith in ⊎-elim (λ e. rw e not) (λ k. h .none l x k) (eq-or-lt-of-le o);
 }
 
 -- the end of the loop
-pub raised-done : (via : ℕ → ℕ) (n w b r : ℕ) → w ≤ b → Raised via n w b r → Raised via n w w r
-raised-done via n w b r l h = record { within = h .within; some = h .some; none = λ o x m. h .none o x (omega arith) }
+pub raised-done : {via : ℕ → ℕ} {n w b r : ℕ} → w ≤ b → Raised via n w b r → Raised via n w w r
+raised-done l h = record { within = h .within; some = h .some; none = λ o x m. h .none o x (omega arith) }
 
 -- before the first street the total is 0
 pub sum-start : (v : ℕ → ℕ → ℕ) (D : List ℕ) → 0 ≡ divisionTotal v (take 0 D)

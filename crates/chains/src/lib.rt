@@ -1,14 +1,15 @@
-// The division is improved by closed chains of moves until none gains. A chain is searched layer by layer over the best moves between sites;
-// where a layer raises no price, the prices prove the division best.
+// The division is improved by closed chains of moves until none gains (cycle cancelling). A chain is searched layer by layer over the best moves
+// between sites, as by Bellman-Ford; where a layer raises no price, the prices prove the division best.
 
 ghost use mathlib.Core.Path.{_≡_};
 ghost use Prim.Native.Nat.{ℕ, _+_, _*_, _≤_, _<_};
 ghost use lib.ListN.{length};
+ghost use Rattle.counting.specs.Bounds.{mostPrice};
 ghost use Rattle.counting.specs.Lists.{at, cell};
 ghost use Rattle.division.specs.Prices.{Priced};
 ghost use Rattle.division.specs.Shares.{InShares, divisionTotal};
 ghost use Rattle.division.specs.Problem.{Problem, tail};
-ghost use Rattle.pairs.specs.Moves.{Land, Tables};
+ghost use Rattle.pairs.specs.Moves.{Valued, Tables};
 ghost use Rattle.rings.specs.Rings.{moved, Moves};
 ghost use Rattle.chains.specs.Chains.{Buffers, Searched, Raised, Closed};
 
@@ -27,11 +28,14 @@ fn deepen(
     gains: &[u32],
 ) -> usize
     requires { ⌜ Problem (now values) (now shares) (length (now division)) × InShares (now division) (tail (now shares)) ⌝ }
-    requires { ⌜ (k < length (now shares)) × (length (now low) ≡ length (now shares)) × (length (now prices) ≡ (length (now shares) + 1) * length (now shares)) × (length (now vias) ≡ length (now shares) * length (now shares)) ⌝ }
+    requires { ⌜ (k < length (now shares)) × (length (now low) ≡ length (now shares))
+        × (length (now prices) ≡ (length (now shares) + 1) * length (now shares)) × (length (now vias) ≡ length (now shares) * length (now shares)) ⌝ }
     requires { ⌜ Searched (now values) (now shares) (now division) (length (now shares)) k (now low) (now prices) (now vias) ⌝ }
     requires { ⌜ Tables (now values) (now division) (length (now shares)) (now pairs) (now gains) ⌝ }
-    ensures searched { λ _. ⌜ Searched (now (values .entry)) (now (shares .entry)) (now (division .entry)) (length (now (shares .entry))) (k + 1) (now (low .exit)) (now (prices .exit)) (now (vias .exit)) ⌝ }
-    ensures raised { λ r. ⌜ Raised (cell (now (vias .exit)) (length (now (shares .entry))) k) (length (now (division .entry))) (length (now (shares .entry))) (length (now (shares .entry))) r ⌝ }
+    ensures searched { λ _. ⌜ Searched (now (values .entry)) (now (shares .entry)) (now (division .entry)) (length (now (shares .entry))) (k + 1)
+        (now (low .exit)) (now (prices .exit)) (now (vias .exit)) ⌝ }
+    ensures raised { λ r. ⌜ Raised (cell (now (vias .exit)) (length (now (shares .entry))) k)
+        (length (now (division .entry))) (length (now (shares .entry))) (length (now (shares .entry))) r ⌝ }
 {
     let w = shares.len();
     let n = division.len();
@@ -48,7 +52,7 @@ fn deepen(
         gains,
         shares,
     );
-    steps::copy(&prices[to..end], low);
+    buffers::copy_numbers(&prices[to..end], low);
     steps::highest(low, &vias[from..to], n)
 }
 
@@ -64,7 +68,7 @@ fn turn(
     from: usize,
     count: usize,
 )
-    requires { ⌜ Land (now values) (now division) w ⌝ }
+    requires { ⌜ Valued (now values) (now division) w ⌝ }
     requires { ⌜ Tables (now values) (now division) w (now pairs) (now gains) ⌝ }
     requires { ⌜ Moves (length (now division)) (now streets) (now sites) from count ⌝ }
     requires { ⌜ Closed (now division) w (at (now streets)) (at (now sites)) from count ⌝ }
@@ -92,7 +96,8 @@ pub fn improve(
     requires { ⌜ Buffers (length (now shares)) (now low) (now prices) (now vias) (now pairs) (now gains) (now streets) (now sites) ⌝ }
     ensures total { λ r. ⌜ r ≡ divisionTotal (cell (now (values .entry)) (length (now (shares .entry)))) (now (division .exit)) ⌝ }
     ensures shares { λ _. ⌜ InShares (now (division .exit)) (tail (now (shares .entry))) ⌝ }
-    ensures best { λ _. ⌜ ((a : ℕ) → at (now (low .exit)) a ≤ 1000000000) × Priced (cell (now (values .entry)) (length (now (shares .entry)))) (at (now (low .exit))) (tail (now (shares .entry))) (now (division .exit)) ⌝ }
+    ensures best { λ _. ⌜ ((a : ℕ) → at (now (low .exit)) a ≤ mostPrice)
+        × Priced (cell (now (values .entry)) (length (now (shares .entry)))) (at (now (low .exit))) (tail (now (shares .entry))) (now (division .exit)) ⌝ }
 {
     let w = shares.len();
     pairs::build(values, division, w, pairs, gains);

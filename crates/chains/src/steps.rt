@@ -1,39 +1,20 @@
-// The loops of the search besides its layers: filling, copying, the site that was raised highest, and the total.
+// The loops of the search besides its layers: its start, the site that was raised highest, and the total.
 ghost use mathlib.Core.Path.{_≡_};
 ghost use Prim.Native.Nat.{ℕ, _+_, _*_, _≤_, _<_};
 ghost use lib.ListN.{length};
 ghost use Rattle.counting.specs.Lists.{at, cell};
 ghost use Rattle.division.specs.Shares.{divisionTotal};
-ghost use Rattle.pairs.specs.Moves.{Land};
+ghost use Rattle.pairs.specs.Moves.{Valued};
 ghost use Rattle.chains.specs.Chains.{Raised};
-
-// A list of prices becomes all 0.
-fn clear(list: &mut [u32])
-    ensures { λ _. ⌜ ((i : ℕ) → at (now (list .exit)) i ≡ 0) ⌝ }
-{
-    for i in 0..list.len() {
-        list[i] = 0;
-    }
-}
 
 // A search begins: all prices are 0, the last ones and the first row of all.
 pub fn begin(low: &mut [u32], prices: &mut [u32])
     requires { ⌜ length (now low) ≤ length (now prices) ⌝ }
     ensures { λ _. ⌜ ((a : ℕ) → at (now (low .exit)) a ≡ 0) × ((b : ℕ) → b < length (now (low .entry)) → at (now (prices .exit)) b ≡ 0) ⌝ }
 {
-    clear(low);
+    buffers::clear_numbers(low);
     let w = low.len();
-    clear(&mut prices[..w]);
-}
-
-// A list of prices becomes another of its length.
-pub fn copy(list: &[u32], buffer: &mut [u32])
-    requires { ⌜ length (now list) ≡ length (now buffer) ⌝ }
-    ensures { λ _. ⌜ now (buffer .exit) ≡ now (list .entry) ⌝ }
-{
-    for i in 0..buffer.len() {
-        buffer[i] = list[i];
-    }
+    buffers::clear_numbers(&mut prices[..w]);
 }
 
 // The higher of the best raised site so far and one site more; prices.len() stands for none.
@@ -76,7 +57,7 @@ fn value(values: &[u32], w: usize, s: usize, a: usize) -> u32
 
 // The total of a division.
 pub fn sum(values: &[u32], w: usize, division: &[u8]) -> u32
-    requires { ⌜ Land (now values) (now division) w × ((s : ℕ) → s < length (now division) → at (now division) s < w) ⌝ }
+    requires { ⌜ Valued (now values) (now division) w × ((s : ℕ) → s < length (now division) → at (now division) s < w) ⌝ }
     ensures { λ r. ⌜ r ≡ divisionTotal (cell (now (values .entry)) w) (now (division .entry)) ⌝ }
 {
     let mut total: u32 = 0;

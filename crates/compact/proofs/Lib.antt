@@ -1,3 +1,3 @@
-pub mod Columning
-pub mod Compacted
-pub mod Numbering
+pub mod SmallTable
+pub mod BestByNumbers
+pub mod SiteNumbers

@@ -3,6 +3,7 @@
 use mathlib.Core.Path.{_≡_}
 use mathlib.Core.List.{List}
 use Prim.Native.Nat.{ℕ, _≤_, _<_}
+use Rattle.counting.specs.Bounds.{mostValue}
 use Rattle.counting.specs.Lists.{at, cell}
 
 -- the sites below a that have a share have the numbers 1 to k - 1, in rising order, and site 0 has the number 0: `sites` leads from number to site,
@@ -20,4 +21,4 @@ pub record Numbered (shares sites numbers few : List ℕ) (a k : ℕ) : Type 0 w
 -- a table of the columns that the first k of `sites` have in another, for the first n streets
 pub record Columns (values : List ℕ) (w : ℕ) (sites table : List ℕ) (k n : ℕ) : Type 0 where
   pub same : (s j : ℕ) → s < n → j < k → cell table k s j ≡ cell values w s (at sites j)
-  pub small : (i : ℕ) → at table i ≤ 99000
+  pub small : (i : ℕ) → at table i ≤ mostValue

@@ -2,6 +2,7 @@
 ghost use mathlib.Core.Path.{_≡_};
 ghost use Prim.Native.Nat.{ℕ, _*_, _≤_, _<_};
 ghost use lib.ListN.{length};
+ghost use Rattle.counting.specs.Bounds.{mostStreets, mostWidth, mostValue};
 ghost use Rattle.counting.specs.Lists.{at};
 ghost use Rattle.compact.specs.Numbered.{Columns};
 
@@ -19,9 +20,9 @@ fn fill_row(values: &[u32], sites: &[u8], row: &mut [u32])
 
 // All n streets' values: a row of w values becomes one of k.
 pub fn fill(values: &[u32], w: usize, sites: &[u8], k: usize, n: usize, table: &mut [u32])
-    requires { ⌜ (length (now values) ≡ n * w) × (length (now table) ≡ n * k) × (n ≤ 400) × (w ≤ 65) × (k ≤ w) ⌝ }
+    requires { ⌜ (length (now values) ≡ n * w) × (length (now table) ≡ n * k) × (n ≤ mostStreets) × (w ≤ mostWidth) × (k ≤ w) ⌝ }
     requires { ⌜ (k ≤ length (now sites)) × ((j : ℕ) → j < k → at (now sites) j < w) ⌝ }
-    requires { ⌜ ((i : ℕ) → at (now values) i ≤ 99000) × ((i : ℕ) → at (now table) i ≡ 0) ⌝ }
+    requires { ⌜ ((i : ℕ) → at (now values) i ≤ mostValue) × ((i : ℕ) → at (now table) i ≡ 0) ⌝ }
     ensures { λ _. ⌜ Columns (now (values .entry)) w (now (sites .entry)) (now (table .exit)) k n ⌝ }
 {
     for s in 0..n {

@@ -3,6 +3,7 @@ ghost use mathlib.Core.Path.{_≡_};
 ghost use mathlib.Core.List.{map};
 ghost use Prim.Native.Nat.{ℕ, _≤_, _<_};
 ghost use lib.ListN.{length};
+ghost use Rattle.counting.specs.Bounds.{mostWidth};
 ghost use Rattle.counting.specs.Lists.{at};
 ghost use Rattle.compact.specs.Numbered.{Numbered};
 
@@ -11,7 +12,7 @@ ghost use Rattle.compact.specs.Numbered.{Numbered};
 pub fn number(shares: &[u16], sites: &mut [u8], numbers: &mut [u8], few: &mut [u16]) -> usize
     requires { ⌜ (length (now shares) ≤ length (now sites)) × (length (now shares) ≤ length (now numbers)) × (length (now shares) ≤ length (now few)) ⌝ }
     requires { ⌜ (at (now sites) 0 ≡ 0) × (at (now numbers) 0 ≡ 0) × (at (now few) 0 ≡ 0) ⌝ }
-    requires { ⌜ (0 < length (now shares)) × (length (now shares) ≤ 65) × (at (now shares) 0 ≡ 0) ⌝ }
+    requires { ⌜ (0 < length (now shares)) × (length (now shares) ≤ mostWidth) × (at (now shares) 0 ≡ 0) ⌝ }
     ensures { λ r. ⌜ Numbered (now (shares .entry)) (now (sites .exit)) (now (numbers .exit)) (now (few .exit)) (length (now (shares .entry))) r ⌝ }
 {
     let mut k: usize = 1;

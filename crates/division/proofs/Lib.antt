@@ -4,5 +4,5 @@ pub mod Shared
 pub mod Dual
 pub mod Chain
 pub mod Ties
-pub mod Towns
+pub mod ProblemShares
 pub mod Renumbered

@@ -5,11 +5,8 @@ use Prim.Native.Nat.{ℕ, _*_, _≤_, _<_}
 use mathlib.Core.Path.{_≡_}
 use mathlib.Core.List.{List, [], _∷_}
 use lib.ListN.{length}
+use Rattle.counting.specs.Bounds.{mostStreets, mostWidth, mostValue}
 use Rattle.counting.specs.Lists.{at}
-
--- the greatest value of a site for a street that the engines allow for: a score of at most 1,000 times a weight of at most 99
-abbrev pub mostValue : ℕ
-mostValue = 99000
 
 -- a list without its first number: the shares of the sites 1, 2, .. where site 0 stands in front of them
 abbrev pub tail : List ℕ → List ℕ
@@ -22,5 +19,5 @@ pub record Problem (values shares : List ℕ) (n : ℕ) : Type 0 where
   pub small : (i : ℕ) → at values i ≤ mostValue
   pub nobody : at shares 0 ≡ 0
   pub some-site : 0 < length shares
-  pub few-sites : length shares ≤ 65
-  pub few : n ≤ 400
+  pub few-sites : length shares ≤ mostWidth
+  pub few : n ≤ mostStreets

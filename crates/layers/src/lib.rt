@@ -1,12 +1,13 @@
-// One layer of the search for a chain that gains, made from the tables of best moves, one site's row after another.
+// One layer of the search for a chain that gains, made from the tables of best moves, one site's row after another: a round of Bellman-Ford.
 use pairs::EVEN;
 ghost use mathlib.Core.Path.{_≡_};
 ghost use Prim.Native.Nat.{_+_, _*_, _≤_, _<_};
 ghost use lib.ListN.{length};
+ghost use Rattle.counting.specs.Bounds.{mostValue, mostPrice};
 ghost use Rattle.counting.specs.Lists.{at, cell};
 ghost use Rattle.counting.specs.Buffers.{Mapped};
 ghost use Rattle.pairs.specs.Moves.{Tables};
-ghost use Rattle.layers.specs.Layers.{Ground, Fitting, Layer, Lifts, Taking};
+ghost use Rattle.layers.specs.Layers.{Layerable, Fitting, Layer, Lifts, Taking};
 
 // A site's price, and the street that raised it.
 pub struct Taken {
@@ -16,7 +17,7 @@ pub struct Taken {
 
 // The greater of a site's price and what one move more brings, which must be more to win; a site without a share keeps its price.
 fn take(price: u32, street: u16, share: u16, x: u32, u: u16) -> Taken
-    requires { ⌜ price ≤ 1000099000 ⌝ }
+    requires { ⌜ price ≤ mostPrice + mostValue ⌝ }
     ensures { λ r. ⌜ Taking price street share x u (r .price) (r .street) ⌝ }
 {
     if share == 0 {
@@ -55,13 +56,14 @@ fn relax(
     shares: &[u16],
     a: usize,
 )
-    requires { ⌜ Ground (now before) (now values) (now division) ⌝ }
+    requires { ⌜ Layerable (now before) (now values) (now division) ⌝ }
     requires { ⌜ Tables (now values) (now division) (length (now before)) (now pairs) (now gains) ⌝ }
     requires { ⌜ Fitting (length (now before)) (length (now division)) (now after) (now via) (now shares) ⌝ }
     requires { ⌜ (a < length (now before)) × (0 < at (now gains) (a * length (now before))) ⌝ }
     requires { ⌜ Lifts (cell (now values) (length (now before))) (at (now before)) (at (now division)) (at (now shares))
         a (length (now division)) (length (now before)) (at (now after)) (at (now via)) ⌝ }
-    ensures { λ _. ⌜ Lifts (cell (now (values .entry)) (length (now (before .entry)))) (at (now (before .entry))) (at (now (division .entry))) (at (now (shares .entry)))
+    ensures { λ _. ⌜ Lifts (cell (now (values .entry)) (length (now (before .entry))))
+        (at (now (before .entry))) (at (now (division .entry))) (at (now (shares .entry)))
         (a + 1) (length (now (division .entry))) (length (now (before .entry))) (at (now (after .exit))) (at (now (via .exit))) ⌝ }
 {
     let w = before.len();
@@ -92,13 +94,14 @@ fn pass(
     shares: &[u16],
     a: usize,
 )
-    requires { ⌜ Ground (now before) (now values) (now division) ⌝ }
+    requires { ⌜ Layerable (now before) (now values) (now division) ⌝ }
     requires { ⌜ Tables (now values) (now division) (length (now before)) (now pairs) (now gains) ⌝ }
     requires { ⌜ Fitting (length (now before)) (length (now division)) (now after) (now via) (now shares) ⌝ }
     requires { ⌜ a < length (now before) ⌝ }
     requires { ⌜ Lifts (cell (now values) (length (now before))) (at (now before)) (at (now division)) (at (now shares))
         a (length (now division)) (length (now before)) (at (now after)) (at (now via)) ⌝ }
-    ensures { λ _. ⌜ Lifts (cell (now (values .entry)) (length (now (before .entry)))) (at (now (before .entry))) (at (now (division .entry))) (at (now (shares .entry)))
+    ensures { λ _. ⌜ Lifts (cell (now (values .entry)) (length (now (before .entry))))
+        (at (now (before .entry))) (at (now (division .entry))) (at (now (shares .entry)))
         (a + 1) (length (now (division .entry))) (length (now (before .entry))) (at (now (after .exit))) (at (now (via .exit))) ⌝ }
 {
     let first = a * before.len();
@@ -129,10 +132,11 @@ pub fn layer(
     gains: &[u32],
     shares: &[u16],
 )
-    requires { ⌜ Ground (now before) (now values) (now division) ⌝ }
+    requires { ⌜ Layerable (now before) (now values) (now division) ⌝ }
     requires { ⌜ Tables (now values) (now division) (length (now before)) (now pairs) (now gains) ⌝ }
     requires { ⌜ Fitting (length (now before)) (length (now division)) (now after) (now via) (now shares) ⌝ }
-    ensures { λ _. ⌜ Layer (cell (now (values .entry)) (length (now (before .entry)))) (at (now (before .entry))) (at (now (division .entry))) (at (now (shares .entry)))
+    ensures { λ _. ⌜ Layer (cell (now (values .entry)) (length (now (before .entry))))
+        (at (now (before .entry))) (at (now (division .entry))) (at (now (shares .entry)))
         (length (now (division .entry))) (length (now (before .entry))) (at (now (after .exit))) (at (now (via .exit))) ⌝ }
 {
     begin(before, after, via, division.len() as u16);

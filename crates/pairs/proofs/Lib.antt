@@ -1,3 +1,4 @@
+pub mod TableRows
 pub mod Stores
 pub mod Moves
 pub mod Mending

@@ -35,26 +35,26 @@ module _ (w a : ℕ) (table row : List ℕ) (l : a < w) (size : length table ≡
       (omega (arith, row-within x w a (omega arith))))
 
 -- so one row of both tables is made anew
-pub renewed : (values division : List ℕ) (w a : ℕ) (pairs gains p g : List ℕ) → a < w → length pairs ≡ w * w → length gains ≡ w * w
+pub renewed : {values division : List ℕ} {w a : ℕ} {pairs gains : List ℕ} (p g : List ℕ) → a < w → length pairs ≡ w * w → length gains ≡ w * w
     → length p ≡ length (part (a * w) (a * w + w) pairs) → length g ≡ length (part (a * w) (a * w + w) gains)
     → Row (cell values w) (at division) a (length division) (length division) w (at g) (at p)
     → Renewed values division w a pairs gains (put (a * w) (a * w + w) pairs p) (put (a * w) (a * w + w) gains g)
-renewed values division w a pairs gains p g l sp sg fp fg h =
+renewed {w = w} {a} {pairs} {gains} p g l sp sg fp fg h =
     record {
       row = λ b lb. rw (row-in w a gains g l sg fg b lb, row-in w a pairs p l sp fp b lb) (h b lb);
       gains-kept = λ x b lx d lb. row-other w a gains g l sg fg x b d lb;
       pairs-kept = λ x b lx d lb. row-other w a pairs p l sp fp x b d lb;
     }
 
-module _ (values division : List ℕ) (w : ℕ) where
-  -- no row is made yet, and all are to be
-  pub mended-none : (pairs gains : List ℕ) → Mended values division w (λ l. l) 0 w pairs gains
-  mended-none pairs gains a l free = absurd (free a (omega arith) l refl)
+-- no row is made yet, and all are to be
+pub mended-none : (values division : List ℕ) (w : ℕ) (pairs gains : List ℕ) → Mended values division w (λ l. l) 0 w pairs gains
+mended-none values division w pairs gains a l free = absurd (free a (omega arith) l refl)
 
+module _ {values division : List ℕ} {w : ℕ} {xs : ℕ → ℕ} {i e : ℕ} {pairs gains : List ℕ} where
   -- the row of the next site is made anew
-  pub mended-more : (xs : ℕ → ℕ) (i e : ℕ) (pairs gains pairs′ gains′ : List ℕ) → Renewed values division w (xs i) pairs gains pairs′ gains′
+  pub mended-more : {pairs′ gains′ : List ℕ} → Renewed values division w (xs i) pairs gains pairs′ gains′
       → Mended values division w xs i e pairs gains → Mended values division w xs (i + 1) e pairs′ gains′
-  mended-more xs i e pairs gains pairs′ gains′ r h a l free = by-cases (ℕ-discrete (xs i) a) new old
+  mended-more {pairs′} {gains′} r h a l free = by-cases (ℕ-discrete (xs i) a) new old
     where
       new : xs i ≡ a → Row (cell values w) (at division) a (length division) (length division) w (cell gains′ w a) (cell pairs′ w a)
       new q = subst (λ (x : ℕ). Row (cell values w) (at division) x (length division) (length division) w (cell gains′ w x) (cell pairs′ w x)) q (r .row)
@@ -65,7 +65,7 @@ module _ (values division : List ℕ) (w : ℕ) where
           (h a l (λ k m z. by-cases (ℕ-discrete i k) (λ q. rw q at d) (λ q. free k (omega arith) z)) b lb)
 
   -- no row is left
-  pub mended-all : (xs : ℕ → ℕ) (i e : ℕ) (pairs gains : List ℕ) → e ≤ i → length pairs ≡ w * w → length gains ≡ w * w
+  pub mended-all : e ≤ i → length pairs ≡ w * w → length gains ≡ w * w
       → Mended values division w xs i e pairs gains → Tables values division w pairs gains
-  mended-all xs i e pairs gains k sp sg h =
+  mended-all k sp sg h =
       record { pairs-fit = sp; gains-fit = sg; paired = λ a l. h a l (λ x m z. absurd (omega arith)) }

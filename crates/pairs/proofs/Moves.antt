@@ -3,23 +3,19 @@
 use mathlib.Core.Path.{_≡_}
 use mathlib.Core.Logic.{_≢_, by-cases}
 use mathlib.Core.List.{List}
-use Prim.Native.Nat.{ℕ, _+_, _-_, _*_, _≤_, _<_}
-use native.Mathlib.Nat.{le-antisymm, mul-le-mul}
+use Prim.Native.Nat.{ℕ, _+_, _-_, _≤_, _<_}
+use native.Mathlib.Nat.{le-antisymm}
 use native.Mathlib.Decide.{decLt}
 use native.Mathlib.Omega.{arith}
 use borrow.Author.Count.{below-more}
-use lib.ListN.{length, set}
+use lib.ListN.{length, set, replicate}
+use Rattle.counting.specs.Bounds.{mostValue}
 use Rattle.counting.specs.Lists.{at}
-use Rattle.counting.specs.Buffers.{Mapped}
-use Rattle.counting.proofs.Tables.{row-within}
-use Rattle.pairs.specs.Moves.{Pair, Row, Better, Meeting}
+use Rattle.buffers.proofs.Copying.{filled-at}
+use Rattle.pairs.specs.Moves.{even, Pair, Row, Better, Meeting}
 use Rattle.pairs.proofs.Stores.{stored, unstored}
 
--- a row of a table of at most 400 rows and 65 columns lies within it, and the table is small
-pub row-ends : (s n w : ℕ) → s < n → n ≤ 400 → w ≤ 65 → (s * w + w ≤ n * w) × (n * w ≤ 26000)
-row-ends s n w l few few-sites = (row-within n w s l, mul-le-mul {n₁ = n} {m₁ = w} {n₂ = 400} {m₂ = 65} few few-sites)
-
-module _ (v : ℕ → ℕ → ℕ) (D : ℕ → ℕ) (a n : ℕ) where
+module _ {v : ℕ → ℕ → ℕ} {D : ℕ → ℕ} {a n : ℕ} where
   -- no street has been looked at: a gain of 0 stands for no move
   pair-none : (b t : ℕ) → Pair v D a 0 n b 0 t
   pair-none b t =
@@ -32,15 +28,14 @@ module _ (v : ℕ → ℕ → ℕ) (D : ℕ → ℕ) (a n : ℕ) where
       }
 
   -- a cleared row is one of no streets
-  pub row-start : (w : ℕ) (before gains : List ℕ) (t : ℕ → ℕ) → length before ≡ w → Mapped (λ b x. 0) before gains (length before)
-      → Row v D a 0 n w (at gains) t
-  row-start w before gains t e h b l = rw (h .done b (omega arith)) (pair-none b (t b))
+  pub row-start : {w : ℕ} (size : ℕ) (gains : List ℕ) (t : ℕ → ℕ) → gains ≡ replicate size 0 → Row v D a 0 n w (at gains) t
+  row-start size gains t e b l = rw (filled-at 0 gains size e b) (pair-none b (t b))
 
   -- a street of another site changes nothing
-  pub row-skip : (s w : ℕ) (g t : ℕ → ℕ) → D s ≢ a → Row v D a s n w g t → Row v D a (s + 1) n w g t
-  row-skip s w g t d h b l =
+  pub row-skip : {s w : ℕ} {g t : ℕ → ℕ} → D s ≢ a → Row v D a s n w g t → Row v D a (s + 1) n w g t
+  row-skip {s} {g = g} d h b l =
       record {
-        covers = below-more (λ r. D r ≡ a → v r b + 100000 ≤ g b + v r a) s (h b l .covers) (λ e. absurd (d e));
+        covers = below-more (λ r. D r ≡ a → v r b + even ≤ g b + v r a) s (h b l .covers) (λ e. absurd (d e));
         street = h b l .street;
         stands = h b l .stands;
         by = h b l .by;
@@ -48,26 +43,26 @@ module _ (v : ℕ → ℕ → ℕ) (D : ℕ → ℕ) (a n : ℕ) where
       }
 
   -- a street of the site is held against the best move so far
-  pub pair-more : (s b g t g′ t′ : ℕ) → s < n → D s ≡ a → v s a ≤ 99000 → v s b ≤ 99000
-      → Better g t (v s b + 100000 - v s a) s g′ t′ → Pair v D a s n b g t → Pair v D a (s + 1) n b g′ t′
-  pair-more s b g t g′ t′ l e la lb o h = by-cases (decLt g (v s b + 100000 - v s a)) up (λ d. keep (omega arith))
+  pub pair-more : {s b g t g′ t′ : ℕ} → s < n → D s ≡ a → v s a ≤ mostValue → v s b ≤ mostValue
+      → Better g t (v s b + even - v s a) s g′ t′ → Pair v D a s n b g t → Pair v D a (s + 1) n b g′ t′
+  pair-more {s} {b} {g} {t} {g′} {t′} l e la lb o h = by-cases (decLt g (v s b + even - v s a)) up (λ d. keep (omega arith))
     where
-      up : g < v s b + 100000 - v s a → Pair v D a (s + 1) n b g′ t′
+      up : g < v s b + even - v s a → Pair v D a (s + 1) n b g′ t′
       up m =
           rw (o .up m, o .up-street m)
           (record {
-            covers = below-more (λ r. D r ≡ a → v r b + 100000 ≤ v s b + 100000 - v s a + v r a) s (λ r k q. omega (arith, h .covers r k q)) (λ q. omega arith);
+            covers = below-more (λ r. D r ≡ a → v r b + even ≤ v s b + even - v s a + v r a) s (λ r k q. omega (arith, h .covers r k q)) (λ q. omega arith);
             street = λ k. l;
             stands = λ k. e;
             by = λ k. omega arith;
             small = omega arith;
           })
 
-      keep : v s b + 100000 - v s a ≤ g → Pair v D a (s + 1) n b g′ t′
+      keep : v s b + even - v s a ≤ g → Pair v D a (s + 1) n b g′ t′
       keep m =
           rw (o .keep m, o .keep-street m)
           (record {
-            covers = below-more (λ r. D r ≡ a → v r b + 100000 ≤ g + v r a) s (h .covers) (λ q. omega arith);
+            covers = below-more (λ r. D r ≡ a → v r b + even ≤ g + v r a) s (h .covers) (λ q. omega arith);
             street = h .street;
             stands = h .stands;
             by = h .by;
@@ -75,27 +70,27 @@ module _ (v : ℕ → ℕ → ℕ) (D : ℕ → ℕ) (a n : ℕ) where
           })
 
   -- all streets have been looked at
-  pub row-end : (s w : ℕ) (g t : ℕ → ℕ) → n ≤ s → s ≤ n → Row v D a s n w g t → Row v D a n n w g t
-  row-end s w g t k l h = rw (le-antisymm l k) at h
+  pub row-end : {s w : ℕ} {g t : ℕ → ℕ} → n ≤ s → s ≤ n → Row v D a s n w g t → Row v D a n n w g t
+  row-end k l h = rw (le-antisymm l k) at h
 
   -- a street's turn begins: no site has seen it
-  pub meeting-start : (s w : ℕ) (g t : ℕ → ℕ) → Row v D a s n w g t → Meeting v D a s n w 0 g t
-  meeting-start s w g t h = record { done = λ b l. absurd (omega arith); rest = λ b k l. h b l }
+  pub meeting-start : {s w : ℕ} {g t : ℕ → ℕ} → Row v D a s n w g t → Meeting v D a s n w 0 g t
+  meeting-start h = record { done = λ b l. absurd (omega arith); rest = λ b k l. h b l }
 
   -- one site more has seen it
-  pub meeting-more : (s w b x y : ℕ) (gains pairs : List ℕ) → b < length gains → b < length pairs → Meeting v D a s n w b (at gains) (at pairs)
+  pub meeting-more : {s w b x y : ℕ} (gains pairs : List ℕ) → b < length gains → b < length pairs → Meeting v D a s n w b (at gains) (at pairs)
       → Pair v D a (s + 1) n b x y → Meeting v D a s n w (b + 1) (at (set gains b x)) (at (set pairs b y))
-  meeting-more s w b x y gains pairs lg lp h new =
+  meeting-more {s} {w} {b} {x} {y} gains pairs lg lp h new =
       record {
         done = stored (λ k g t. Pair v D a (s + 1) n k g t) gains pairs b x y lg lp (h .done) new;
         rest = unstored (λ k g t. Pair v D a s n k g t) gains pairs b x y w (h .rest);
       }
 
   -- all sites have seen it
-  pub meeting-end : (s w b : ℕ) (g t : ℕ → ℕ) → w ≤ b → Meeting v D a s n w b g t → Row v D a (s + 1) n w g t
-  meeting-end s w b g t k h x l = h .done x (omega arith)
+  pub meeting-end : {s w b : ℕ} {g t : ℕ → ℕ} → w ≤ b → Meeting v D a s n w b g t → Row v D a (s + 1) n w g t
+  meeting-end k h x l = h .done x (omega arith)
 
-  module _ (w : ℕ) (g t : ℕ → ℕ) (h : Row v D a n n w g t) (small : (s : ℕ) → v s a ≤ 99000) where
+  module _ {w : ℕ} {g t : ℕ → ℕ} (h : Row v D a n n w g t) (small : (s : ℕ) → v s a ≤ mostValue) where
     -- one gain of a site is more than 0: each is
     pub row-some : (b c : ℕ) → b < w → c < w → 0 < g b → 0 < g c
     row-some b c lb lc l = omega (arith, h c lc .covers (t b) (h b lb .street l) (h b lb .stands l), small (t b))
@@ -109,8 +104,8 @@ abbrev pub Alike : ℕ → (ℕ → ℕ) → (ℕ → ℕ) → ℕ → Type 0
 Alike n D E a = (s : ℕ) → s < n → (E s ≡ a → D s ≡ a) × (D s ≡ a → E s ≡ a)
 
 -- and then the same best moves
-pub row-alike : (v : ℕ → ℕ → ℕ) (D E : ℕ → ℕ) (a n w : ℕ) (g t : ℕ → ℕ) → Alike n D E a → Row v D a n n w g t → Row v E a n n w g t
-row-alike v D E a n w g t same h b l =
+pub row-alike : {v : ℕ → ℕ → ℕ} {D E : ℕ → ℕ} {a n w : ℕ} {g t : ℕ → ℕ} → Alike n D E a → Row v D a n n w g t → Row v E a n n w g t
+row-alike {t = t} same h b l =
     let p = h b l in
     record {
       covers = λ s k e. p .covers s k (same s k .0 e);

@@ -1,5 +1,5 @@
--- The best move between each two sites: of the streets at one site, the one that gains most by the move to the other, and its gain. A gain is
--- counted from 100000 for a street that gives both sites the same, so that nothing is signed and 0 stands for a site without streets.
+-- The best move between each two sites: of the streets at one site, the one that gains most by the move to the other, and its gain: an edge of
+-- the residual graph over sites. A gain is counted from `even`, so that nothing is signed and 0 stands for a site without streets.
 -- Sites are numbered from 0 up to a width, site 0 being the one that has no streets; v is the value, D the streets' sites.
 -- Assumes nothing.
 use Prim.Native.Nat.{ℕ, _+_, _*_, _≤_, _<_}
@@ -7,22 +7,27 @@ use mathlib.Core.Path.{_≡_}
 use mathlib.Core.Logic.{_≢_}
 use mathlib.Core.List.{List}
 use lib.ListN.{length}
+use Rattle.counting.specs.Bounds.{mostStreets, mostWidth, mostValue}
 use Rattle.counting.specs.Lists.{at, cell}
 
+-- the gain of a street that gives both sites the same: more than any value
+abbrev pub even : ℕ
+even = 100000
+
 -- values of the streets of a division, in rows of a width
-pub record Land (values division : List ℕ) (w : ℕ) : Type 0 where
+pub record Valued (values division : List ℕ) (w : ℕ) : Type 0 where
   pub size : length values ≡ length division * w
-  pub small : (i : ℕ) → at values i ≤ 99000
-  pub few : length division ≤ 400
-  pub few-sites : w ≤ 65
+  pub small : (i : ℕ) → at values i ≤ mostValue
+  pub few : length division ≤ mostStreets
+  pub few-sites : w ≤ mostWidth
 
 -- the best move from the site a to the site b, of the streets before `seen`: its gain g and its street t
 pub record Pair (v : ℕ → ℕ → ℕ) (D : ℕ → ℕ) (a seen n b g t : ℕ) : Type 0 where
-  pub covers : (s : ℕ) → s < seen → D s ≡ a → v s b + 100000 ≤ g + v s a
+  pub covers : (s : ℕ) → s < seen → D s ≡ a → v s b + even ≤ g + v s a
   pub street : 0 < g → t < n
   pub stands : 0 < g → D t ≡ a
-  pub by : 0 < g → g + v t a ≡ v t b + 100000
-  pub small : g ≤ 199000
+  pub by : 0 < g → g + v t a ≡ v t b + even
+  pub small : g ≤ even + mostValue
 
 -- the best moves from a site
 abbrev pub Row : (ℕ → ℕ → ℕ) → (ℕ → ℕ) → ℕ → ℕ → ℕ → ℕ → (ℕ → ℕ) → (ℕ → ℕ) → Type 0

@@ -3,7 +3,7 @@ ghost use mathlib.Core.Path.{_≡_};
 ghost use Prim.Native.Nat.{ℕ, _+_, _*_, _≤_, _<_};
 ghost use lib.ListN.{length};
 ghost use Rattle.counting.specs.Lists.{at};
-ghost use Rattle.pairs.specs.Moves.{Land, Tables, Renewed, Mended};
+ghost use Rattle.pairs.specs.Moves.{Valued, Tables, Renewed, Mended};
 
 pub mod rows;
 
@@ -12,7 +12,7 @@ pub const EVEN: u32 = 100000;
 
 // The row of the site a is made anew.
 fn renew(values: &[u32], division: &[u8], w: usize, a: usize, pairs: &mut [u16], gains: &mut [u32])
-    requires { ⌜ Land (now values) (now division) w ⌝ }
+    requires { ⌜ Valued (now values) (now division) w ⌝ }
     requires { ⌜ (a < w) × (length (now pairs) ≡ w * w) × (length (now gains) ≡ w * w) ⌝ }
     ensures { λ _. ⌜ Renewed (now (values .entry)) (now (division .entry)) w a
         (now (pairs .entry)) (now (gains .entry)) (now (pairs .exit)) (now (gains .exit)) ⌝ }
@@ -40,7 +40,7 @@ pub fn mend(
     pairs: &mut [u16],
     gains: &mut [u32],
 )
-    requires { ⌜ Land (now values) (now division) w ⌝ }
+    requires { ⌜ Valued (now values) (now division) w ⌝ }
     requires { ⌜ (from + count ≤ length (now sites)) × (length (now pairs) ≡ w * w) × (length (now gains) ≡ w * w) ⌝ }
     requires { ⌜ ((l : ℕ) → from ≤ l → l < from + count → at (now sites) l < w) ⌝ }
     requires { ⌜ Mended (now values) (now division) w (at (now sites)) from (from + count) (now pairs) (now gains) ⌝ }
@@ -54,7 +54,7 @@ pub fn mend(
 
 // All rows are made anew.
 pub fn build(values: &[u32], division: &[u8], w: usize, pairs: &mut [u16], gains: &mut [u32])
-    requires { ⌜ Land (now values) (now division) w ⌝ }
+    requires { ⌜ Valued (now values) (now division) w ⌝ }
     requires { ⌜ (length (now pairs) ≡ w * w) × (length (now gains) ≡ w * w) ⌝ }
     ensures { λ _. ⌜ Tables (now (values .entry)) (now (division .entry)) w (now (pairs .exit)) (now (gains .exit)) ⌝ }
 {

@@ -4,8 +4,7 @@ ghost use mathlib.Core.Path.{_≡_};
 ghost use Prim.Native.Nat.{_+_, _<_};
 ghost use lib.ListN.{length};
 ghost use Rattle.counting.specs.Lists.{at, cell};
-ghost use Rattle.counting.specs.Buffers.{Mapped};
-ghost use Rattle.pairs.specs.Moves.{Land, Row, Better};
+ghost use Rattle.pairs.specs.Moves.{Valued, Row, Better};
 
 // A move's gain, and its street.
 pub struct Gain {
@@ -23,15 +22,6 @@ fn better(gain: u32, street: u16, x: u32, s: u16) -> Gain
     Gain { gain, street }
 }
 
-// All gains are 0: no street has been looked at.
-fn clear(gains: &mut [u32])
-    ensures { λ _. ⌜ Mapped (λ b x. 0) (now (gains .entry)) (now (gains .exit)) (length (now (gains .entry))) ⌝ }
-{
-    for b in 0..gains.len() {
-        gains[b] = 0;
-    }
-}
-
 // A street of the site a is held against the best move to each site. Both stores happen in every turn, so that the loop has no branch.
 fn meet(
     values: &[u32],
@@ -42,7 +32,7 @@ fn meet(
     pairs: &mut [u16],
     gains: &mut [u32],
 )
-    requires { ⌜ Land (now values) (now division) w ⌝ }
+    requires { ⌜ Valued (now values) (now division) w ⌝ }
     requires { ⌜ (s < length (now division)) × (a < w) × (length (now pairs) ≡ w) × (length (now gains) ≡ w) × (at (now division) s ≡ a) ⌝ }
     requires { ⌜ Row (cell (now values) w) (at (now division)) a s (length (now division)) w (at (now gains)) (at (now pairs)) ⌝ }
     ensures { λ _. ⌜ Row (cell (now (values .entry)) w) (at (now (division .entry)))
@@ -68,7 +58,7 @@ fn visit(
     pairs: &mut [u16],
     gains: &mut [u32],
 )
-    requires { ⌜ Land (now values) (now division) w ⌝ }
+    requires { ⌜ Valued (now values) (now division) w ⌝ }
     requires { ⌜ (s < length (now division)) × (a < w) × (length (now pairs) ≡ w) × (length (now gains) ≡ w) ⌝ }
     requires { ⌜ Row (cell (now values) w) (at (now division)) a s (length (now division)) w (at (now gains)) (at (now pairs)) ⌝ }
     ensures { λ _. ⌜ Row (cell (now (values .entry)) w) (at (now (division .entry)))
@@ -81,7 +71,7 @@ fn visit(
     meet(values, division, w, a, s, pairs, gains);
 }
 
-// The best moves from the site a, over all streets.
+// The best moves from the site a, over all streets. A gain of 0 says that no street has been looked at.
 pub fn rebuild(
     values: &[u32],
     division: &[u8],
@@ -90,12 +80,12 @@ pub fn rebuild(
     pairs: &mut [u16],
     gains: &mut [u32],
 )
-    requires { ⌜ Land (now values) (now division) w ⌝ }
+    requires { ⌜ Valued (now values) (now division) w ⌝ }
     requires { ⌜ (a < w) × (length (now pairs) ≡ w) × (length (now gains) ≡ w) ⌝ }
     ensures { λ _. ⌜ Row (cell (now (values .entry)) w) (at (now (division .entry)))
         a (length (now (division .entry))) (length (now (division .entry))) w (at (now (gains .exit))) (at (now (pairs .exit))) ⌝ }
 {
-    clear(gains);
+    buffers::clear_numbers(gains);
     for s in 0..division.len() {
         visit(values, division, w, a, s, pairs, gains);
     }

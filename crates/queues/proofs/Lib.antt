@@ -1,5 +1,5 @@
-pub mod Growth
-pub mod Listing
-pub mod Bounds
+pub mod QueueGrowth
+pub mod TightRows
+pub mod ReadBounds
 pub mod PathBack
-pub mod Limiting
+pub mod LeaveLimits

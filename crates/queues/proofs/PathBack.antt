@@ -1,4 +1,4 @@
--- Laws of the way home: the lowest place, and the turn, one street on the way at a time.
+-- Laws of the path back: the lowest place, and the turn, one street on the path at a time.
 -- Assumes nothing.
 use mathlib.Core.Path.{_≡_, refl, sym, _∙_}
 use mathlib.Core.Bool.{Bool}
@@ -14,10 +14,10 @@ use Rattle.counting.specs.Lists.{at}
 use Rattle.division.specs.Prices.{Tight}
 use Rattle.division.proofs.Chain.{over-on, over-total}
 use Rattle.queues.specs.Queue.{Differ, Later, Queue, Grown}
-use Rattle.queues.specs.Home.{Lowest, Turning, Turned}
+use Rattle.queues.specs.PathBack.{Lowest, Turning, Turned}
 
 module _ {v : ℕ → ℕ → ℕ} {d : ℕ → ℕ} {D : List ℕ} {s : ℕ} {sites : List ℕ} where
-  -- of home alone, home is the lowest
+  -- of the start alone, the start is the lowest
   pub lowest-start : at sites 0 ≡ at D s → Lowest v d D s 1 sites 0
   lowest-start e =
       record {
@@ -50,13 +50,13 @@ pub lowest-end : {v : ℕ → ℕ → ℕ} {d : ℕ → ℕ} {D : List ℕ} {s :
     → Lowest v d D s k sites p
 lowest-end i k a b h = rw (le-antisymm b a) at h
 
--- the way home from a place of the queue
-pub way-home : {v : ℕ → ℕ → ℕ} {d : ℕ → ℕ} {D : List ℕ} {s w k : ℕ} {sites streets nexts : List ℕ} {flags : List Bool} {i : ℕ} (q : ℕ) → q < k
+-- the path back from a place of the queue
+pub path-back : {v : ℕ → ℕ → ℕ} {d : ℕ → ℕ} {D : List ℕ} {s w k : ℕ} {sites streets nexts : List ℕ} {flags : List Bool} {i : ℕ} (q : ℕ) → q < k
     → Grown v d D s w k sites streets nexts flags i → Differ (q + 1) sites × Queue D s (q + 1) sites streets nexts
-way-home q l g = (
+path-back q l g = (
   λ i j m n. g .placed .differ i j m (omega arith),
   record {
-    home = g .queue .home;
+    start = g .queue .start;
     later = λ j m. g .queue .later j (omega arith);
     nearer = λ j m. g .queue .nearer j (omega arith);
   },
@@ -108,7 +108,7 @@ module _ {D E : List ℕ} {s q : ℕ} {sites streets nexts : List ℕ} {p : ℕ}
       other : (j : ℕ) → 0 < j → j ≤ at nexts p → at streets j ≢ t
       other j l m e = differ j p (omega (arith, near)) (omega arith) (sym (h .rest j l (omega (arith, near))) ∙ rw e stands)
 
-  -- home is reached, and the street s goes to the site of the place q
+  -- the start is reached, and the street s goes to the site of the place q
   pub turning-done : p ≡ 0 → s < length D → Turned D (set E s (at sites q)) s q sites streets nexts
   turning-done e l =
       record {
@@ -116,7 +116,7 @@ module _ {D E : List ℕ} {s q : ℕ} {sites streets nexts : List ℕ} {p : ℕ}
         before = λ t m. getD-set-other E s t a 0 (λ q. omega arith) ∙ h .upto t (omega arith);
         moved = getD-set-same E s a 0 fits;
         counts = λ z. omega (arith, over-on D E a y s a fits (rw e at (h .over)) stands z);
-        total = λ v d m t. omega (arith, over-total D E a y s a fits v d stands (rw (sym (queue .home)) at t) (rw e at (h .total v d m)));
+        total = λ v d m t. omega (arith, over-total D E a y s a fits v d stands (rw (sym (queue .start)) at t) (rw e at (h .total v d m)));
       }
     where
       a : ℕ
@@ -129,12 +129,13 @@ module _ {D E : List ℕ} {s q : ℕ} {sites streets nexts : List ℕ} {p : ℕ}
       fits = omega (arith, h .long)
 
       stands : at E s ≡ y
-      stands = h .upto s (omega arith) ∙ sym (queue .home)
+      stands = h .upto s (omega arith) ∙ sym (queue .start)
 
 -- a later street that stands at b changes sites with s: a queue of two places
 pub swapped : {D : List ℕ} {s t b : ℕ} → s < length D → Later D s t b → b ≢ at D s
     → Turned D (set (set D t (at D s)) s b) s 1 (at D s ∷ b ∷ []) (0 ∷ t ∷ []) (0 ∷ 0 ∷ [])
-swapped {D} {s} {t} {b} l later other = turning-done queue (turning-step queue (turning-start D s 1 sites streets nexts queue) differ (omega arith) (omega arith)) refl l
+swapped {D} {s} {t} {b} l later other =
+    turning-done queue (turning-step queue (turning-start D s 1 sites streets nexts queue) differ (omega arith) (omega arith)) refl l
   where
     sites : List ℕ
     sites = at D s ∷ b ∷ []
@@ -153,7 +154,7 @@ swapped {D} {s} {t} {b} l later other = turning-done queue (turning-step queue (
 
     queue : Queue D s 2 sites streets nexts
     queue = record {
-      home = refl;
+      start = refl;
       later = λ j m o. let e : j ≡ 1 = omega arith in rw e later;
       nearer = λ j m o. let e : j ≡ 1 = omega arith in rw e (omega arith);
     }

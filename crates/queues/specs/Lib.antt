@@ -1,4 +1,4 @@
 pub mod Queue
 pub mod Limits
-pub mod Home
+pub mod PathBack
 pub mod Tights

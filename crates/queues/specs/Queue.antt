@@ -1,6 +1,6 @@
--- The queue of the sites from which the site of a street s is in reach by tight moves of later streets. Place 0 is home, the site of s; each
--- other place has a site, a later street that stands there, and a place nearer home whose site that street is tight for. A flag for each site
--- says whether it is in the queue. v is the value of a site for a street, d are prices, D is a division.
+-- The queue of the sites from which the site of a street s is in reach by tight moves of later streets. Place 0 is the start, the site of s; each
+-- other place has a site, a later street that stands there, and a place nearer the start whose site that street is tight for. A flag for each
+-- site says whether it is in the queue. v is the value of a site for a street, d are prices, D is a division.
 -- Assumes nothing.
 use Prim.Native.Nat.{ℕ, _*_, _≤_, _<_}
 use mathlib.Core.Path.{_≡_}
@@ -8,6 +8,7 @@ use mathlib.Core.Bool.{Bool, true, false}
 use mathlib.Core.Logic.{_≢_}
 use mathlib.Core.List.{List}
 use lib.ListN.{length, getD}
+use Rattle.counting.specs.Bounds.{mostStreets, mostWidth, mostValue, mostPrice}
 use Rattle.counting.specs.Lists.{at}
 use Rattle.division.specs.Prices.{Tight}
 
@@ -15,11 +16,11 @@ use Rattle.division.specs.Prices.{Tight}
 pub record Scene (values prices D : List ℕ) (w : ℕ) : Type 0 where
   pub rows : length values ≡ length D * w
   pub size : length prices ≡ w
-  pub small : (i : ℕ) → at values i ≤ 99000
-  pub low : (a : ℕ) → at prices a ≤ 1000000000
+  pub small : (i : ℕ) → at values i ≤ mostValue
+  pub low : (a : ℕ) → at prices a ≤ mostPrice
   pub sited : (t : ℕ) → t < length D → at D t < w
-  pub few : length D ≤ 400
-  pub few-sites : w ≤ 65
+  pub few : length D ≤ mostStreets
+  pub few-sites : w ≤ mostWidth
 
 -- the answer of a test says whether a fact holds
 abbrev pub Tells : Bool → Type 0 → Type 0
@@ -47,23 +48,19 @@ pub record Placed (w k : ℕ) (sites : List ℕ) (flags : List Bool) : Type 0 wh
   pub each : (j : ℕ) → j < k → flag flags (at sites j) ≡ true
   pub only : (x : ℕ) → flag flags x ≡ true → (j : ℕ) × (j < k) × (at sites j ≡ x)
 
--- the first n flags are not set
-abbrev pub Clear : List Bool → ℕ → Type 0
-Clear flags n = (x : ℕ) → x < n → flag flags x ≡ false
-
 -- the street t is later than s and stands at the site x
 pub record Later (D : List ℕ) (s t x : ℕ) : Type 0 where
   pub after : s < t
   pub street : t < length D
   pub stands : at D t ≡ x
 
--- the first k places: the site of s is home, and each other place has a later street that stands at its site, and a place nearer home
+-- the first k places: the site of s is the start, and each other place has a later street that stands at its site, and a place nearer the start
 pub record Queue (D : List ℕ) (s k : ℕ) (sites streets nexts : List ℕ) : Type 0 where
-  pub home : at sites 0 ≡ at D s
+  pub start : at sites 0 ≡ at D s
   pub later : (j : ℕ) → j < k → 0 < j → Later D s (at streets j) (at sites j)
   pub nearer : (j : ℕ) → j < k → 0 < j → at nexts j < j
 
--- each street of the queue is tight for the site of the place nearer home
+-- each street of the queue is tight for the site of the place nearer the start
 abbrev pub Linked : (ℕ → ℕ → ℕ) → (ℕ → ℕ) → List ℕ → ℕ → List ℕ → List ℕ → List ℕ → Type 0
 Linked v d D k sites streets nexts = (j : ℕ) → j < k → 0 < j → Tight v d D (at streets j) (at sites (at nexts j))
 

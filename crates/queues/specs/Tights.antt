@@ -6,6 +6,7 @@ use Prim.Native.Nat.{ℕ, _+_, _*_, _≤_, _<_}
 use mathlib.Core.Path.{_≡_}
 use mathlib.Core.List.{List}
 use lib.ListN.{length}
+use Rattle.counting.specs.Bounds.{mostStreets, mostWidth}
 use Rattle.counting.specs.Lists.{at}
 use Rattle.division.specs.Prices.{Tight}
 
@@ -28,6 +29,10 @@ Listed v d D shares k tights ends = (y : ℕ) → y < k → 0 < at shares y → 
 -- the sites where streets stand have their rows
 abbrev pub Rowed : (ℕ → ℕ → ℕ) → (ℕ → ℕ) → List ℕ → List ℕ → List ℕ → Type 0
 Rowed v d D tights ends = (t : ℕ) → t < length D → RowOf v d D tights ends (at D t)
+
+-- the cells of a table with rows for the most sites and the most streets
+abbrev pub mostTights : ℕ
+mostTights = mostWidth * (mostStreets + 1)
 
 -- the table has room for a row for each of w sites
 abbrev pub Rows : ℕ → ℕ → List ℕ → List ℕ → Type 0

@@ -56,7 +56,8 @@ fn leaves(values: &[u32], shares: &[u16], prices: &[u32], division: &[u8], t: us
     requires { ⌜ Scene (now values) (now prices) (now division) (length (now shares)) ⌝ }
     requires { ⌜ t < length (now division) ⌝ }
     ensures { λ r. ⌜ (r ≡ false
-        → Leaver (cell (now (values .entry)) (length (now (shares .entry)))) (at (now (prices .entry))) (now (shares .entry)) (now (division .entry)) t → ⊥) ⌝ }
+        → Leaver (cell (now (values .entry)) (length (now (shares .entry)))) (at (now (prices .entry))) (now (shares .entry))
+        (now (division .entry)) t → ⊥) ⌝ }
 {
     for y in 0..shares.len() {
         if other(values, shares, prices, division, t, y) {
@@ -79,7 +80,8 @@ fn stands(
     requires { ⌜ t < length (now division) ⌝ }
     ensures yes { λ r. ⌜ (r ≡ true → at (now (division .entry)) t ≡ x) ⌝ }
     ensures no { λ r. ⌜ (r ≡ false → at (now (division .entry)) t ≡ x
-        → Leaver (cell (now (values .entry)) (length (now (shares .entry)))) (at (now (prices .entry))) (now (shares .entry)) (now (division .entry)) t → ⊥) ⌝ }
+        → Leaver (cell (now (values .entry)) (length (now (shares .entry)))) (at (now (prices .entry))) (now (shares .entry))
+        (now (division .entry)) t → ⊥) ⌝ }
 {
     if division[t] as usize != x {
         return false;
@@ -102,7 +104,8 @@ pub fn lower(
     requires { ⌜ Limits (Leaver (cell (now values) (length (now shares))) (at (now prices)) (now shares) (now division)) s (now division) (now limits) ⌝ }
     ensures yes { λ r. ⌜ (r ≡ true → LastAt (now (division .entry)) s (now (limits .exit)) x) ⌝ }
     ensures no { λ r. ⌜ (r ≡ false → at (now (limits .exit)) x ≤ s + 1) ⌝ }
-    ensures limits { λ _. ⌜ Limits (Leaver (cell (now (values .entry)) (length (now (shares .entry)))) (at (now (prices .entry))) (now (shares .entry)) (now (division .entry)))
+    ensures limits { λ _. ⌜ Limits
+        (Leaver (cell (now (values .entry)) (length (now (shares .entry)))) (at (now (prices .entry))) (now (shares .entry)) (now (division .entry)))
         s (now (division .entry)) (now (limits .exit)) × ((y : ℕ) → at (now (limits .exit)) y ≤ at (now (limits .entry)) y) ⌝ }
 {
     let mut e = limits[x] as usize;

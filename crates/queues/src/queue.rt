@@ -1,10 +1,10 @@
-// The queue of the sites from which a street's own site is in reach by tight moves of later streets. A place of it has a site, a street that
-// stands there, and a place nearer home that the street can go on to.
+// The queue of the sites from which a street's own site is in reach by tight moves of later streets, found by a breadth-first search over tight
+// arcs. A place of it has a site, a street that stands there, and a place nearer the start that the street can go on to.
 ghost use mathlib.Core.Path.{_≡_};
 ghost use Prim.Native.Nat.{ℕ, _+_, _<_};
 ghost use lib.ListN.{length};
 ghost use Rattle.counting.specs.Lists.{at, cell};
-ghost use Rattle.queues.specs.Queue.{Scene, Tells, Room, Clear, Placed, Grown, Growing};
+ghost use Rattle.queues.specs.Queue.{Scene, Tells, Room, Placed, Grown, Growing};
 ghost use Rattle.queues.specs.Tights.{Rowed, Rows};
 ghost use Rattle.division.specs.Prices.{Tight, Agree};
 
@@ -98,7 +98,8 @@ fn scan(
     requires { ⌜ Scene (now values) (now prices) (now division) w ⌝ }
     requires { ⌜ Room w (now streets) (now nexts) (now sites) (now flags) ⌝ }
     requires { ⌜ (i < count) × (s < length (now division)) ⌝ }
-    requires { ⌜ Rows w (length (now division)) (now tights) (now ends) × Rowed (cell (now values) w) (at (now prices)) (now division) (now tights) (now ends) ⌝ }
+    requires { ⌜ Rows w (length (now division)) (now tights) (now ends)
+        × Rowed (cell (now values) w) (at (now prices)) (now division) (now tights) (now ends) ⌝ }
     requires { ⌜ Grown (cell (now values) w) (at (now prices)) (now division) s w count (now sites) (now streets) (now nexts) (now flags) i ⌝ }
     ensures { λ r. ⌜ i < r ⌝ }
     ensures { λ r. ⌜ Grown (cell (now (values .entry)) w) (at (now (prices .entry))) (now (division .entry)) s w r
@@ -129,22 +130,13 @@ fn scan(
     k
 }
 
-// No flag is set.
-fn clear(flags: &mut [bool])
-    ensures { λ _. ⌜ Clear (now (flags .exit)) (length (now (flags .exit))) ⌝ }
-{
-    for x in 0..flags.len() {
-        flags[x] = false;
-    }
-}
-
 // The queue has one place, the site of s.
 fn start(division: &[u8], s: usize, sites: &mut [u8], flags: &mut [bool])
     requires { ⌜ (s < length (now division)) × (at (now division) s < length (now flags)) × (0 < length (now sites)) ⌝ }
     ensures { λ _. ⌜ (at (now (sites .exit)) 0 ≡ at (now (division .entry)) s)
         × ((w : ℕ) → at (now (division .entry)) s < w → Placed w 1 (now (sites .exit)) (now (flags .exit))) ⌝ }
 {
-    clear(flags);
+    buffers::clear_flags(flags);
     let a = division[s];
     sites[0] = a;
     flags[a as usize] = true;
@@ -167,7 +159,8 @@ pub fn grow(
     requires { ⌜ Scene (now values) (now prices) (now division) w ⌝ }
     requires { ⌜ Room w (now streets) (now nexts) (now sites) (now flags) ⌝ }
     requires { ⌜ s < length (now division) ⌝ }
-    requires { ⌜ Rows w (length (now division)) (now tights) (now ends) × Rowed (cell (now values) w) (at (now prices)) (now division) (now tights) (now ends) ⌝ }
+    requires { ⌜ Rows w (length (now division)) (now tights) (now ends)
+        × Rowed (cell (now values) w) (at (now prices)) (now division) (now tights) (now ends) ⌝ }
     ensures { λ r. ⌜ Grown (cell (now (values .entry)) w) (at (now (prices .entry))) (now (division .entry)) s w r
         (now (sites .exit)) (now (streets .exit)) (now (nexts .exit)) (now (flags .exit)) r ⌝ }
 {

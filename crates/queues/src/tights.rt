@@ -45,7 +45,8 @@ fn fill_row(
 ) -> usize
     requires { ⌜ Scene (now values) (now prices) (now division) w ⌝ }
     requires { ⌜ (y < w) × (row + length (now division) < length (now tights)) × (at (now tights) row ≡ 0) ⌝ }
-    ensures { λ r. ⌜ Row (cell (now (values .entry)) w) (at (now (prices .entry))) (now (division .entry)) (now (tights .exit)) row r y (length (now (division .entry)))
+    ensures { λ r. ⌜ Row (cell (now (values .entry)) w) (at (now (prices .entry))) (now (division .entry)) (now (tights .exit)) row r y
+        (length (now (division .entry)))
         × Agree (now (tights .entry)) (now (tights .exit)) row ⌝ }
 {
     let mut e = 0;
@@ -68,8 +69,8 @@ fn list_site(
     requires { ⌜ Scene (now values) (now prices) (now division) (length (now shares)) ⌝ }
     requires { ⌜ Rows (length (now shares)) (length (now division)) (now tights) (now ends) × (y < length (now shares)) ⌝ }
     requires { ⌜ Listed (cell (now values) (length (now shares))) (at (now prices)) (now division) (now shares) y (now tights) (now ends) ⌝ }
-    ensures { λ _. ⌜ Listed (cell (now (values .entry)) (length (now (shares .entry)))) (at (now (prices .entry))) (now (division .entry)) (now (shares .entry))
-        (y + 1) (now (tights .exit)) (now (ends .exit)) ⌝ }
+    ensures { λ _. ⌜ Listed (cell (now (values .entry)) (length (now (shares .entry)))) (at (now (prices .entry))) (now (division .entry))
+        (now (shares .entry)) (y + 1) (now (tights .exit)) (now (ends .exit)) ⌝ }
 {
     if shares[y] == 0 {
         return;
@@ -91,8 +92,8 @@ pub fn list_sites(
 )
     requires { ⌜ Scene (now values) (now prices) (now division) (length (now shares)) ⌝ }
     requires { ⌜ Rows (length (now shares)) (length (now division)) (now tights) (now ends) ⌝ }
-    ensures { λ _. ⌜ Listed (cell (now (values .entry)) (length (now (shares .entry)))) (at (now (prices .entry))) (now (division .entry)) (now (shares .entry))
-        (length (now (shares .entry))) (now (tights .exit)) (now (ends .exit)) ⌝ }
+    ensures { λ _. ⌜ Listed (cell (now (values .entry)) (length (now (shares .entry)))) (at (now (prices .entry))) (now (division .entry))
+        (now (shares .entry)) (length (now (shares .entry))) (now (tights .exit)) (now (ends .exit)) ⌝ }
 {
     for y in 0..shares.len() {
         list_site(values, shares, prices, division, y, tights, ends);

@@ -1,2 +1,2 @@
 pub mod Moved
-pub mod Back
+pub mod WalkBack

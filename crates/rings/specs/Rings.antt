@@ -1,5 +1,5 @@
--- Walking back from a raised site to a meeting, and the closed chain of moves that it finds. The walk is recorded by layer: the street ts l
--- stands at the site xs l and goes to the site xs (l + 1). The table of the streets that raised the sites has a row for each layer.
+-- Walking back from a raised site to a meeting, by Bellman-Ford's predecessors, and the closed chain of moves that it finds, a gaining cycle. At layer
+-- l the street ts l stands at the site xs l and goes to the site xs (l + 1). The table of the streets that raised the sites has a row for each layer.
 -- Assumes nothing.
 use Prim.Native.Nat.{ℕ, zero, suc, _+_, _*_, _≤_, _<_}
 use mathlib.Core.Path.{_≡_}

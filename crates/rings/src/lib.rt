@@ -28,7 +28,8 @@ fn find(sites: &[u8], from: usize, to: usize, x: u8) -> usize
 fn step(vias: &[u16], division: &[u8], w: usize, l: usize, streets: &mut [u16], sites: &mut [u8])
     requires { ⌜ Linkable (now vias) (now division) w l (now streets) (now sites) ⌝ }
     ensures streets { λ _. ⌜ now (streets .exit) ≡ set (now (streets .entry)) l (cell (now (vias .entry)) w l (at (now (sites .entry)) (l + 1))) ⌝ }
-    ensures sites { λ _. ⌜ now (sites .exit) ≡ set (now (sites .entry)) l (at (now (division .entry)) (cell (now (vias .entry)) w l (at (now (sites .entry)) (l + 1)))) ⌝ }
+    ensures sites { λ _. ⌜ now (sites .exit)
+        ≡ set (now (sites .entry)) l (at (now (division .entry)) (cell (now (vias .entry)) w l (at (now (sites .entry)) (l + 1)))) ⌝ }
 {
     let x = sites[l + 1] as usize;
     let street = vias[l * w + x];
@@ -47,7 +48,8 @@ pub fn walk(
     sites: &mut [u8],
 ) -> Ring
     requires { ⌜ Walkable (now vias) (now division) w k b (now streets) (now sites) ⌝ }
-    ensures { λ r. ⌜ Walked (cell (now (vias .entry)) w) (now (division .entry)) w k (at (now (streets .exit))) (at (now (sites .exit))) (r .from) (r .count) ⌝ }
+    ensures { λ r. ⌜ Walked (cell (now (vias .entry)) w) (now (division .entry)) w k
+        (at (now (streets .exit))) (at (now (sites .exit))) (r .from) (r .count) ⌝ }
 {
     sites[k] = b as u8;
     let mut l = k;

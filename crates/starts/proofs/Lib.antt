@@ -1,2 +1,2 @@
-pub mod Sharing
-pub mod Giving
+pub mod EqualShares
+pub mod FirstDivision

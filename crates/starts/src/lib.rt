@@ -18,16 +18,6 @@ pub fn share_out(sites: &[u8], q: u16, m: usize, shares: &mut [u16])
     }
 }
 
-// Before the first street has its site, every share is left whole.
-fn copy(shares: &[u16], left: &mut [u16])
-    requires { ⌜ length (now shares) ≡ length (now left) ⌝ }
-    ensures { λ _. ⌜ now (left .exit) ≡ now (shares .entry) ⌝ }
-{
-    for a in 0..left.len() {
-        left[a] = shares[a];
-    }
-}
-
 // The best site so far that has a share left, and 1 more than its value; 0 while there is none.
 struct Found {
     site: usize,
@@ -71,7 +61,7 @@ pub fn begin(values: &[u32], shares: &[u16], left: &mut [u16], division: &mut [u
     requires { ⌜ (shareSum (tail (now shares)) ≡ length (now division)) × (length (now left) ≡ length (now shares)) ⌝ }
     ensures { λ _. ⌜ InShares (now (division .exit)) (tail (now (shares .entry))) ⌝ }
 {
-    copy(shares, left);
+    buffers::copy_words(shares, left);
     let w = shares.len();
     for s in 0..division.len() {
         let from = s * w;

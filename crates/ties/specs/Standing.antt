@@ -4,14 +4,17 @@ use Prim.Native.Nat.{ℕ, _+_, _≤_, _<_}
 use mathlib.Core.Path.{_≡_}
 use mathlib.Core.List.{List}
 use lib.ListN.{length}
-use Rattle.counting.specs.Lists.{at}
+use Rattle.counting.specs.Bounds.{mostPrice}
+use Rattle.counting.specs.Lists.{at, cell}
 use Rattle.division.specs.Prices.{Priced, Tight, FirstTo}
 use Rattle.division.specs.Shares.{InShares}
-use Rattle.queues.specs.Limits.{LastAt}
+use Rattle.division.specs.Problem.{Problem, tail}
+use Rattle.queues.specs.Limits.{Leaver, Limits, LastAt}
+use Rattle.queues.specs.Tights.{Listed, Rows}
 
--- a price for each of w sites, at most 1,000,000,000
+-- a price for each of w sites
 abbrev pub Prices : List ℕ → ℕ → Type 0
-Prices prices w = (length prices ≡ w) × ((a : ℕ) → at prices a ≤ 1000000000)
+Prices prices w = (length prices ≡ w) × ((a : ℕ) → at prices a ≤ mostPrice)
 
 -- the street s is tight for no site below u that has a share and can be left
 abbrev pub Loose : (ℕ → ℕ → ℕ) → (ℕ → ℕ) → List ℕ → List ℕ → List ℕ → ℕ → ℕ → Type 0
@@ -29,3 +32,13 @@ pub record Standing (v : ℕ → ℕ → ℕ) (d : ℕ → ℕ) (c D : List ℕ)
   pub within : InShares D c
   pub priced : Priced v d c D
   pub first : FirstTo v c D s
+
+-- the pass before the street s: a problem with prices, a division that stands, the rows of the tight streets, and the limits
+pub record Pass (values shares prices D tights ends limits : List ℕ) (s : ℕ) : Type 0 where
+  pub problem : Problem values shares (length D)
+  pub price : Prices prices (length shares)
+  pub standing : Standing (cell values (length shares)) (at prices) (tail shares) D s
+  pub rows : Rows (length shares) (length D) tights ends
+  pub listed : Listed (cell values (length shares)) (at prices) D shares (length shares) tights ends
+  pub fits : length shares ≤ length limits
+  pub limited : Limits (Leaver (cell values (length shares)) (at prices) shares D) s D limits

@@ -1,4 +1,6 @@
 // The tie pass: street by street, a best division becomes the one that is first in dictionary order.
+use counting::STREETS;
+use counting::WIDTH;
 ghost use mathlib.Core.Path.{_≡_};
 ghost use mathlib.Core.Bool.{true, false};
 ghost use Prim.Native.Nat.{ℕ, _+_, _≤_, _<_};
@@ -10,8 +12,7 @@ ghost use Rattle.division.specs.Divide.{divide};
 ghost use Rattle.division.specs.Problem.{tail, Problem};
 ghost use Rattle.queues.specs.Queue.{Scene, Room};
 ghost use Rattle.queues.specs.Limits.{Leaver, Limits, LastAt};
-ghost use Rattle.ties.specs.Standing.{Aim, Prices, Standing};
-ghost use Rattle.queues.specs.Tights.{Listed, Rows};
+ghost use Rattle.ties.specs.Standing.{Aim, Prices, Pass};
 
 // Whether the street s may go to the site b, and b can be left. The limit of b is lowered on the way.
 fn reach(
@@ -31,7 +32,8 @@ fn reach(
     ensures no { λ r. ⌜ (r ≡ false → 0 < at (now (shares .entry)) b
         → Tight (cell (now (values .entry)) (length (now (shares .entry)))) (at (now (prices .entry))) (now (division .entry)) s b
         → at (now (limits .exit)) b ≤ s + 1) ⌝ }
-    ensures limits { λ _. ⌜ Limits (Leaver (cell (now (values .entry)) (length (now (shares .entry)))) (at (now (prices .entry))) (now (shares .entry)) (now (division .entry)))
+    ensures limits { λ _. ⌜ Limits
+        (Leaver (cell (now (values .entry)) (length (now (shares .entry)))) (at (now (prices .entry))) (now (shares .entry)) (now (division .entry)))
         s (now (division .entry)) (now (limits .exit)) × ((x : ℕ) → at (now (limits .exit)) x ≤ at (now (limits .entry)) x) ⌝ }
 {
     if !queues::queue::may(values, shares, prices, division, s, b) {
@@ -52,8 +54,10 @@ fn aim(
     requires { ⌜ Scene (now values) (now prices) (now division) (length (now shares)) ⌝ }
     requires { ⌜ (s < length (now division)) × (length (now shares) ≤ length (now limits)) ⌝ }
     requires { ⌜ Limits (Leaver (cell (now values) (length (now shares))) (at (now prices)) (now shares) (now division)) s (now division) (now limits) ⌝ }
-    ensures { λ r. ⌜ Aim (cell (now (values .entry)) (length (now (shares .entry)))) (at (now (prices .entry))) (now (shares .entry)) (now (limits .exit)) (now (division .entry)) s r ⌝ }
-    ensures { λ _. ⌜ Limits (Leaver (cell (now (values .entry)) (length (now (shares .entry)))) (at (now (prices .entry))) (now (shares .entry)) (now (division .entry)))
+    ensures { λ r. ⌜ Aim (cell (now (values .entry)) (length (now (shares .entry)))) (at (now (prices .entry))) (now (shares .entry)) (now (limits .exit))
+        (now (division .entry)) s r ⌝ }
+    ensures { λ _. ⌜ Limits
+        (Leaver (cell (now (values .entry)) (length (now (shares .entry)))) (at (now (prices .entry))) (now (shares .entry)) (now (division .entry)))
         s (now (division .entry)) (now (limits .exit)) ⌝ }
 {
     let a = division[s] as usize;
@@ -80,21 +84,10 @@ fn settle_far(
     flags: &mut [bool],
     limits: &mut [u16],
 )
-    requires { ⌜ Problem (now values) (now shares) (length (now division)) ⌝ }
-    requires { ⌜ Prices (now prices) (length (now shares)) ⌝ }
-    requires { ⌜ Room (length (now shares)) (now streets) (now nexts) (now sites) (now flags) ⌝ }
-    requires { ⌜ s < length (now division) ⌝ }
-    requires { ⌜ Rows (length (now shares)) (length (now division)) (now tights) (now ends)
-        × Listed (cell (now values) (length (now shares))) (at (now prices)) (now division) (now shares) (length (now shares)) (now tights) (now ends) ⌝ }
-    requires { ⌜ Standing (cell (now values) (length (now shares))) (at (now prices)) (tail (now shares)) (now division) s ⌝ }
-    requires { ⌜ (length (now shares) ≤ length (now limits))
-        × Limits (Leaver (cell (now values) (length (now shares))) (at (now prices)) (now shares) (now division)) s (now division) (now limits) ⌝ }
-    ensures { λ _. ⌜ Standing (cell (now (values .entry)) (length (now (shares .entry)))) (at (now (prices .entry))) (tail (now (shares .entry)))
-        (now (division .exit)) (s + 1) ⌝ }
-    ensures { λ _. ⌜ Listed (cell (now (values .entry)) (length (now (shares .entry)))) (at (now (prices .entry))) (now (division .exit)) (now (shares .entry))
-        (length (now (shares .entry))) (now (tights .entry)) (now (ends .entry)) ⌝ }
-    ensures { λ _. ⌜ Limits (Leaver (cell (now (values .entry)) (length (now (shares .entry)))) (at (now (prices .entry))) (now (shares .entry)) (now (division .exit)))
-        s (now (division .exit)) (now (limits .exit)) ⌝ }
+    requires { ⌜ Pass (now values) (now shares) (now prices) (now division) (now tights) (now ends) (now limits) s ⌝ }
+    requires { ⌜ Room (length (now shares)) (now streets) (now nexts) (now sites) (now flags) × (s < length (now division)) ⌝ }
+    ensures { λ _. ⌜ Pass (now (values .entry)) (now (shares .entry)) (now (prices .entry)) (now (division .exit)) (now (tights .entry)) (now (ends .entry))
+        (now (limits .exit)) (s + 1) ⌝ }
 {
     let w = shares.len();
     let count = queues::queue::grow(
@@ -110,8 +103,8 @@ fn settle_far(
         sites,
         flags,
     );
-    let place = queues::home::lowest(values, prices, w, division, s, sites, count);
-    queues::home::turn(division, s, place, streets, nexts, sites, limits);
+    let place = queues::path_back::lowest(values, prices, w, division, s, sites, count);
+    queues::path_back::turn(division, s, place, streets, nexts, sites, limits);
 }
 
 // The street s goes to the lowest site that it can have, and later streets make way: mostly one that stands there changes sites with it.
@@ -129,21 +122,10 @@ fn settle_street(
     flags: &mut [bool],
     limits: &mut [u16],
 )
-    requires { ⌜ Problem (now values) (now shares) (length (now division)) ⌝ }
-    requires { ⌜ Prices (now prices) (length (now shares)) ⌝ }
-    requires { ⌜ Room (length (now shares)) (now streets) (now nexts) (now sites) (now flags) ⌝ }
-    requires { ⌜ s < length (now division) ⌝ }
-    requires { ⌜ Rows (length (now shares)) (length (now division)) (now tights) (now ends)
-        × Listed (cell (now values) (length (now shares))) (at (now prices)) (now division) (now shares) (length (now shares)) (now tights) (now ends) ⌝ }
-    requires { ⌜ Standing (cell (now values) (length (now shares))) (at (now prices)) (tail (now shares)) (now division) s ⌝ }
-    requires { ⌜ (length (now shares) ≤ length (now limits))
-        × Limits (Leaver (cell (now values) (length (now shares))) (at (now prices)) (now shares) (now division)) s (now division) (now limits) ⌝ }
-    ensures { λ _. ⌜ Standing (cell (now (values .entry)) (length (now (shares .entry)))) (at (now (prices .entry))) (tail (now (shares .entry)))
-        (now (division .exit)) (s + 1) ⌝ }
-    ensures { λ _. ⌜ Listed (cell (now (values .entry)) (length (now (shares .entry)))) (at (now (prices .entry))) (now (division .exit)) (now (shares .entry))
-        (length (now (shares .entry))) (now (tights .entry)) (now (ends .entry)) ⌝ }
-    ensures { λ _. ⌜ Limits (Leaver (cell (now (values .entry)) (length (now (shares .entry)))) (at (now (prices .entry))) (now (shares .entry)) (now (division .exit)))
-        s (now (division .exit)) (now (limits .exit)) ⌝ }
+    requires { ⌜ Pass (now values) (now shares) (now prices) (now division) (now tights) (now ends) (now limits) s ⌝ }
+    requires { ⌜ Room (length (now shares)) (now streets) (now nexts) (now sites) (now flags) × (s < length (now division)) ⌝ }
+    ensures { λ _. ⌜ Pass (now (values .entry)) (now (shares .entry)) (now (prices .entry)) (now (division .exit)) (now (tights .entry)) (now (ends .entry))
+        (now (limits .exit)) (s + 1) ⌝ }
 {
     let a = division[s];
     let b = aim(values, shares, prices, division, s, limits);
@@ -188,14 +170,8 @@ fn settle_streets(
     flags: &mut [bool],
     limits: &mut [u16],
 )
-    requires { ⌜ Problem (now values) (now shares) (length (now division)) ⌝ }
-    requires { ⌜ Prices (now prices) (length (now shares)) ⌝ }
+    requires { ⌜ Pass (now values) (now shares) (now prices) (now division) (now tights) (now ends) (now limits) 0 ⌝ }
     requires { ⌜ Room (length (now shares)) (now streets) (now nexts) (now sites) (now flags) ⌝ }
-    requires { ⌜ Rows (length (now shares)) (length (now division)) (now tights) (now ends)
-        × Listed (cell (now values) (length (now shares))) (at (now prices)) (now division) (now shares) (length (now shares)) (now tights) (now ends) ⌝ }
-    requires { ⌜ Standing (cell (now values) (length (now shares))) (at (now prices)) (tail (now shares)) (now division) 0 ⌝ }
-    requires { ⌜ (length (now shares) ≤ length (now limits))
-        × Limits (Leaver (cell (now values) (length (now shares))) (at (now prices)) (now shares) (now division)) 0 (now division) (now limits) ⌝ }
     ensures { λ _. ⌜ now (division .exit)
         ≡ divide (cell (now (values .entry)) (length (now (shares .entry)))) (length (now (division .entry))) (tail (now (shares .entry))) ⌝ }
 {
@@ -236,9 +212,9 @@ pub fn settle(
     ensures { λ _. ⌜ now (division .exit)
         ≡ divide (cell (now (values .entry)) (length (now (shares .entry)))) (length (now (division .entry))) (tail (now (shares .entry))) ⌝ }
 {
-    let mut tights = [0u16; 26065];
-    let mut ends = [0u16; 65];
-    let mut limits = [0u16; 65];
+    let mut tights = [0u16; WIDTH * (STREETS + 1)];
+    let mut ends = [0u16; WIDTH];
+    let mut limits = [0u16; WIDTH];
     queues::limits::fill(&mut limits, division.len() as u16);
     queues::tights::list_sites(values, shares, prices, division, &mut tights, &mut ends);
     settle_streets(

@@ -1,100 +1,106 @@
 -- `chains::deepen` meets its contract. Assumes nothing.
 use borrow.Author.Needs.{needs}
-use Rattle.chains.proofs.Layered.{wrote}
-use Rattle.chains.proofs.Layered.{room, same-width, ground, fitted, deepened, raised-row}
-use lib.ListN.{length}
-use native.Mathlib.Omega.{arith}
 use mathlib.Core.Path.{refl}
-use Prim.Native.Nat.{_+_, _*_}
+use mathlib.Core.List.{List}
+use Prim.Native.Nat.{ℕ, _+_, _*_, _≤_}
+use native.Mathlib.Omega.{arith}
+use lib.ListN.{length}
+use Rattle.chains.proofs.Layered.{withRow, written, Deepening, Room, room, layerable, fitted, deepened, raised-row}
 use Rattle.chains.proofs.deepen.Statement.{statement}
 use Rattle.chains.proofs.deepen.Tie as tie
 
-mul-from : tie.Need-mul-from
-mul-from c = let fits = room (c .before .before .before .before .before .before .before .before .args .k) (length (c .before .before .before .before .before .before .before .before .args .shares .now)) (c .before .before .before .before .before .before .before .before .pre .1 .0 .0) (c .before .before .before .before .before .before .before .before .pre .0 .0 .few-sites) in omega (arith, fits .0, fits .1, fits .2)
+-- the start, from where the rows' ends are computed and from the layer; and the layer, from the copy of its prices
+abbrev start : tie.After-shared-slice-known5 → tie.Start
+start c = c .before .before .before .before .before .before .before .before
 
-add-to : tie.Need-add-to
-add-to c = let fits = room (c .before .before .before .before .before .before .before .before .args .k) (length (c .before .before .before .before .before .before .before .before .args .shares .now)) (c .before .before .before .before .before .before .before .before .pre .1 .0 .0) (c .before .before .before .before .before .before .before .before .pre .0 .0 .few-sites) in omega (arith, fits .0, fits .1, fits .2)
+abbrev layer-start : tie.After-layer → tie.Start
+layer-start c = start (c .before .before .before .before)
 
-add-end : tie.Need-add-end
-add-end c = let fits = room (c .before .before .before .before .before .before .before .before .args .k) (length (c .before .before .before .before .before .before .before .before .args .shares .now)) (c .before .before .before .before .before .before .before .before .pre .1 .0 .0) (c .before .before .before .before .before .before .before .before .pre .0 .0 .few-sites) in omega (arith, fits .0, fits .1, fits .2)
+abbrev layer : tie.After-copy-numbers → tie.After-layer
+layer c = c .before .before .before .before .before .before .before .before
 
-mul-layer : tie.Need-mul-layer
-mul-layer c = let fits = room (c .before .before .before .before .before .before .before .before .before .args .k) (length (c .before .before .before .before .before .before .before .before .before .args .shares .now)) (c .before .before .before .before .before .before .before .before .before .pre .1 .0 .0) (c .before .before .before .before .before .before .before .before .before .pre .0 .0 .few-sites) in omega (arith, fits .0, fits .1, fits .2)
+-- the prices and the raising streets of the layer, and the width and the first index of its row
+abbrev after : tie.After-layer → List ℕ
+after c = c .layer .last .1 .0
 
-part-layer-end : tie.Need-part-layer-end
-part-layer-end c = let fits = room (c .before .before .before .before .before .before .before .before .before .args .k) (length (c .before .before .before .before .before .before .before .before .before .args .shares .now)) (c .before .before .before .before .before .before .before .before .before .pre .1 .0 .0) (c .before .before .before .before .before .before .before .before .before .pre .0 .0 .few-sites) in omega (arith, fits .0, fits .1, fits .2, c .before .before .before .before .before .before .before .before .before .pre .1 .0 .2, c .before .before .before .before .before .before .before .before .before .pre .1 .0 .3)
+abbrev via : tie.After-layer → List ℕ
+via c = c .layer .last .1 .1 .0
 
-mul-layer-2 : tie.Need-mul-layer-2
-mul-layer-2 c = let fits = room (c .before .before .before .before .before .before .before .before .before .before .args .k) (length (c .before .before .before .before .before .before .before .before .before .before .args .shares .now)) (c .before .before .before .before .before .before .before .before .before .before .pre .1 .0 .0) (c .before .before .before .before .before .before .before .before .before .before .pre .0 .0 .few-sites) in omega (arith, fits .0, fits .1, fits .2)
+abbrev width : tie.Start → ℕ
+width c = length (c .args .shares .now)
 
-part-layer-end-2 : tie.Need-part-layer-end-2
-part-layer-end-2 c = let fits = room (c .before .before .before .before .before .before .before .before .before .before .args .k) (length (c .before .before .before .before .before .before .before .before .before .before .args .shares .now)) (c .before .before .before .before .before .before .before .before .before .before .pre .1 .0 .0) (c .before .before .before .before .before .before .before .before .before .before .pre .0 .0 .few-sites) in omega (arith, fits .0, fits .1, fits .2, c .before .before .before .before .before .before .before .before .before .before .pre .1 .0 .2, c .before .before .before .before .before .before .before .before .before .before .pre .1 .0 .3)
+abbrev from : tie.Start → ℕ
+from c = c .args .k * width c
+
+-- the search can be made one layer deeper, and there is room for it
+deepening : (c : tie.Start) → let a = c .args in
+    Deepening (a .values .now) (a .shares .now) (a .division .now) (a .k) (a .low .now) (a .prices .now) (a .vias .now)
+deepening c =
+    let p = c .pre in
+    record {
+      problem = p .0 .0;
+      shared = p .0 .1;
+      less = p .1 .0 .0;
+      low-fits = p .1 .0 .1;
+      prices-fit = p .1 .0 .2;
+      vias-fit = p .1 .0 .3;
+      searched = p .1 .1 .0;
+    }
+
+rooms : (c : tie.Start) → let a = c .args in Room (width c) (a .k) (a .prices .now) (a .vias .now)
+rooms c = room (deepening c)
+
+-- what the layer wrote lies in both tables
+prices-written : (c : tie.After-layer) → let s = layer-start c in
+    from s + width s + width s ≤ length (withRow (from s + width s) (width s) (s .args .prices .now) (after c))
+prices-written c = let s = layer-start c in written (from s + width s) (width s) (s .args .prices .now) (after c) (rooms s .in-prices) (c .layer .kept .1 .0)
+
+vias-written : (c : tie.After-layer) → let s = layer-start c in
+    from s + width s ≤ length (withRow (from s) (width s) (s .args .vias .now) (via c))
+vias-written c = let s = layer-start c in written (from s) (width s) (s .args .vias .now) (via c) (rooms s .in-vias) (c .layer .kept .1 .1 .0)
 
 layer-requires : tie.Need-layer-requires
 layer-requires c κs =
-    let a = c .before .before .before .before .before .before .before .before .before .before .before .args in
-    let p = c .before .before .before .before .before .before .before .before .before .before .before .pre in
-    (ground (a .values .now) (a .shares .now) (a .division .now) (p .0 .0) (p .0 .1) (a .k) (p .1 .0 .0) (a .low .now) (a .prices .now) (a .vias .now) (p .1 .0 .1) (p .1 .1 .0), (same-width _ _ _ _ _ _ (p .1 .0 .1) (p .1 .1 .1), fitted (a .values .now) (a .shares .now) (a .division .now) (p .0 .0) (p .0 .1) (a .k) (p .1 .0 .0) (a .low .now) (a .prices .now) (a .vias .now) (p .1 .0 .1) (p .1 .1 .0) (p .1 .0 .2) (p .1 .0 .3)))
-
-mul-copy : tie.Need-mul-copy
-mul-copy c = let fits = room (c .before .before .before .before .before .before .before .before .before .before .before .before .before .before .before .before .args .k) (length (c .before .before .before .before .before .before .before .before .before .before .before .before .before .before .before .before .args .shares .now)) (c .before .before .before .before .before .before .before .before .before .before .before .before .before .before .before .before .pre .1 .0 .0) (c .before .before .before .before .before .before .before .before .before .before .before .before .before .before .before .before .pre .0 .0 .few-sites) in omega (arith, fits .0, fits .1, fits .2)
-
-part-copy-end : tie.Need-part-copy-end
-part-copy-end c =
-    let a = c .before .before .before .before .before .before .before .before .before .before .before .before .before .before .before .before .before .args in
-    let p = c .before .before .before .before .before .before .before .before .before .before .before .before .before .before .before .before .before .pre in
-    let w = length (a .shares .now) in
-    let fits = room (c .before .before .before .before .before .before .before .before .before .before .before .before .before .before .before .before .before .args .k) (length (c .before .before .before .before .before .before .before .before .before .before .before .before .before .before .before .before .before .args .shares .now)) (c .before .before .before .before .before .before .before .before .before .before .before .before .before .before .before .before .before .pre .1 .0 .0) (c .before .before .before .before .before .before .before .before .before .before .before .before .before .before .before .before .before .pre .0 .0 .few-sites) in
-    wrote (a .k * w + w) (a .k * w + w + w) (a .prices .now) (c .before .before .before .before .before .layer .last .1 .0) (omega arith) (omega (arith, fits .1, p .1 .0 .2, p .1 .0 .3)) (c .before .before .before .before .before .layer .kept .1 .0)
-
-mul-highest : tie.Need-mul-highest
-mul-highest c = let fits = room (c .before .before .before .before .before .before .before .before .before .before .before .before .before .before .before .before .before .before .before .before .before .before .before .args .k) (length (c .before .before .before .before .before .before .before .before .before .before .before .before .before .before .before .before .before .before .before .before .before .before .before .args .shares .now)) (c .before .before .before .before .before .before .before .before .before .before .before .before .before .before .before .before .before .before .before .before .before .before .before .pre .1 .0 .0) (c .before .before .before .before .before .before .before .before .before .before .before .before .before .before .before .before .before .before .before .before .before .before .before .pre .0 .0 .few-sites) in omega (arith, fits .0, fits .1, fits .2)
-
-part-highest-end : tie.Need-part-highest-end
-part-highest-end c =
-    let a = c .before .before .before .before .before .before .before .before .before .before .before .before .before .before .before .before .before .before .before .before .before .before .before .before .args in
-    let p = c .before .before .before .before .before .before .before .before .before .before .before .before .before .before .before .before .before .before .before .before .before .before .before .before .pre in
-    let w = length (a .shares .now) in
-    let fits = room (c .before .before .before .before .before .before .before .before .before .before .before .before .before .before .before .before .before .before .before .before .before .before .before .before .args .k) (length (c .before .before .before .before .before .before .before .before .before .before .before .before .before .before .before .before .before .before .before .before .before .before .before .before .args .shares .now)) (c .before .before .before .before .before .before .before .before .before .before .before .before .before .before .before .before .before .before .before .before .before .before .before .before .pre .1 .0 .0) (c .before .before .before .before .before .before .before .before .before .before .before .before .before .before .before .before .before .before .before .before .before .before .before .before .pre .0 .0 .few-sites) in
-    wrote (a .k * w) (a .k * w + w) (a .vias .now) (c .before .before .before .before .before .before .before .before .before .before .before .before .layer .last .1 .1 .0) (omega arith) (omega (arith, fits .0, p .1 .0 .2, p .1 .0 .3)) (c .before .before .before .before .before .before .before .before .before .before .before .before .layer .kept .1 .1 .0)
+    let s = start (c .before .before .before) in
+    let d = deepening s in
+    (layerable d, (rw (d .low-fits) (s .pre .1 .1 .1), fitted d))
 
 returns : tie.Need-returns
 returns c =
-    let a = c .before .before .before .before .before .before .before .before .before .before .before .before .before .before .before .before .before .before .before .before .before .before .before .before .before .before .args in
-    let p = c .before .before .before .before .before .before .before .before .before .before .before .before .before .before .before .before .before .before .before .before .before .before .before .before .before .before .pre in
-    let w = length (a .shares .now) in
-    let fits = room (c .before .before .before .before .before .before .before .before .before .before .before .before .before .before .before .before .before .before .before .before .before .before .before .before .before .before .args .k) (length (c .before .before .before .before .before .before .before .before .before .before .before .before .before .before .before .before .before .before .before .before .before .before .before .before .before .before .args .shares .now)) (c .before .before .before .before .before .before .before .before .before .before .before .before .before .before .before .before .before .before .before .before .before .before .before .before .before .before .pre .1 .0 .0) (c .before .before .before .before .before .before .before .before .before .before .before .before .before .before .before .before .before .before .before .before .before .before .before .before .before .before .pre .0 .0 .few-sites) in
-    let fit = fitted (a .values .now) (a .shares .now) (a .division .now) (p .0 .0) (p .0 .1) (a .k) (p .1 .0 .0) (a .low .now) (a .prices .now) (a .vias .now) (p .1 .0 .1) (p .1 .1 .0) (p .1 .0 .2) (p .1 .0 .3) in
-    let y = c .before .before .before .before .before .before .before .before .before .before .before .before .before .before .layer in (
-      deepened (a .values .now) (a .shares .now) (a .division .now) (p .0 .0) (p .0 .1) (a .k) (p .1 .0 .0) (a .low .now) (a .prices .now) (a .vias .now) (p .1 .0 .1) (p .1 .1 .0) (y .last .1 .0) (y .last .1 .1 .0) (c .before .before .before .before .before .before .copy .last .1 .0) _ _ (p .1 .0 .2) (p .1 .0 .3) (omega (arith, y .kept .1 .0, fit .after-fits, p .1 .0 .1)) (omega (arith, y .kept .1 .1 .0, fit .via-fits, p .1 .0 .1)) (y .ensures) refl refl (c .before .before .before .before .before .before .copy .ensures),
-      raised-row _ (c .before .before .before .before .before .before .copy .last .1 .0) (a .shares .now) _ (a .k) _ (wrote (a .k * w) (a .k * w + w) (a .vias .now) (c .before .before .before .before .before .before .before .before .before .before .before .before .before .before .layer .last .1 .1 .0) (omega arith) (omega (arith, fits .0, p .1 .0 .2, p .1 .0 .3)) (c .before .before .before .before .before .before .before .before .before .before .before .before .before .before .layer .kept .1 .1 .0)) (omega (arith, c .before .before .before .before .before .before .copy .kept .1 .0, p .1 .0 .1)) (c .highest .ensures),
+    let copied = c .before .before .before .before .before .before in
+    let m = layer copied in
+    let d = deepening (layer-start m) in
+    let y = m .layer in
+    let copy = copied .copy-numbers in (
+      deepened d (after m) (via m) (y .kept .1 .0) (y .kept .1 .1 .0) (y .ensures) refl refl (copy .ensures),
+      raised-row d (via m) (copy .last .1 .0) (y .kept .1 .1 .0) (copy .kept .1 .0) (c .highest .ensures),
     )
 
 pub deepen-spec : {M : Type 1} → statement M
 deepen-spec =
     tie.close
     (tie.spec
-    mul-from
-    add-to
-    add-end
-    mul-layer
+    (λ c. omega (arith, rooms (start c)))
+    (λ c. omega (arith, rooms (start c)))
+    (λ c. omega (arith, rooms (start c)))
+    (λ c. omega (arith, rooms (start (c .before))))
     (λ c. search needs)
     (λ c. search needs)
-    part-layer-end
-    mul-layer-2
+    (λ c. omega (arith, rooms (start (c .before))))
+    (λ c. omega (arith, rooms (start (c .before .before))))
     (λ c. search needs)
     (λ c. search needs)
-    part-layer-end-2
+    (λ c. omega (arith, rooms (start (c .before .before))))
     layer-requires
-    mul-copy
+    (λ c. omega (arith, rooms (layer-start (c .before .before .before .before))))
     (λ c. search needs)
     (λ c. search needs)
-    part-copy-end
+    (λ c. prices-written (c .before .before .before .before .before))
     (λ c κs. search needs)
-    mul-highest
+    (λ c. omega (arith, rooms (layer-start (layer (c .before .before .before)))))
     (λ c. search needs)
     (λ c. search needs)
-    part-highest-end
+    (λ c. vias-written (layer (c .before .before .before .before)))
     (λ c κs. search needs)
     (λ c. search needs)
     (λ c. search needs)

@@ -1,23 +1,26 @@
 -- `chains::turn` meets its contract. Assumes nothing.
 use borrow.Author.Needs.{needs}
-use Rattle.chains.proofs.Gains.{land-same, ring-mends}
-use Rattle.counting.specs.Lists.{at}
 use native.Mathlib.Omega.{arith}
+use Rattle.chains.proofs.Improving.{valued-same}
+use Rattle.chains.proofs.Gains.{ring-mends}
 use Rattle.chains.proofs.turn.Statement.{statement}
 use Rattle.chains.proofs.turn.Tie as tie
 
+-- the start, from where the chain is shifted
+abbrev start : tie.After-shift → tie.Start
+start c = c .before .before .before .before .before .before .before .before
+
 mend-requires : tie.Need-mend-requires
 mend-requires c κs =
-    let a = c .before .before .before .before .before .before .before .before .before .before .before .before .before .args in
-    let p = c .before .before .before .before .before .before .before .before .before .before .before .before .before .pre in
-    let d = c .before .before .before .before .before .shift in (
-      land-same (a .values .now) (a .division .now) (d .last .0) (a .w) (d .kept .0) (p .0),
+    let m = c .before .before .before .before .before in
+    let p = start m .pre in
+    let d = m .shift in
+    let ring = p .1 .1 .1 in
+    let tables = p .1 .0 in (
+      valued-same (d .kept .0) (p .0),
       (
-        (omega (arith, p .1 .1 .0 .sites-fit), p .1 .0 .pairs-fit, p .1 .0 .gains-fit),
-        (
-          λ l x y. p .1 .1 .1 .site l x (omega arith),
-          ring-mends (a .values .now) (a .division .now) (d .last .0) (a .w) (a .pairs .now) (a .gains .now) (at (a .streets .now)) (at (a .sites .now)) (a .from) (a .count) (p .1 .0) (p .1 .1 .1) (d .ensures),
-        ),
+        (omega (arith, p .1 .1 .0 .sites-fit), tables .pairs-fit, tables .gains-fit),
+        (λ l x y. ring .site l x (omega arith), ring-mends tables ring (d .ensures)),
       ),
     )
 

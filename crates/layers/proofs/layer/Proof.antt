@@ -1,68 +1,61 @@
 -- `layers::layer` meets its contract. Assumes nothing.
 use borrow.Author.Needs.{needs}
-use mathlib.Core.Path.{_≡_, refl, _∙_}
+use mathlib.Core.Path.{_≡_, refl}
 use Prim.Native.Nat.{_≤_, _-_}
 use native.Mathlib.Omega.{arith}
 use lib.ListN.{length}
 use Rattle.counting.specs.Lists.{at, cell}
-use Rattle.layers.specs.Layers.{Lifts}
-use Rattle.layers.proofs.Lifting.{lifts-start, lifts-all}
+use Rattle.layers.specs.Layers.{Fitting, Lifts}
+use Rattle.layers.proofs.Relaxation.{fitting-same, lifts-start, lifts-all}
 use Rattle.layers.proofs.layer.Statement.{statement}
 use Rattle.layers.proofs.layer.Tie as tie
 
 abbrev Inv-loop : tie.InvT-loop
 Inv-loop before after₀ via₀ values division pairs gains shares a₀ a-end after via a =
-    (a ≤ a-end) × (a-end ≡ length before) × (length after ≡ length before) × (length via ≡ length before)
+    (a ≤ a-end) × (a-end ≡ length before) × Fitting (length before) (length division) after via shares
     × Lifts (cell values (length before)) (at before) (at division) (at shares) a (length division) (length before) (at after) (at via)
 
 abbrev μ-loop : tie.MeasureT-loop
 μ-loop before after₀ via₀ values division pairs gains shares a₀ a-end after via a = a-end - a
 
-cast-begin : tie.Need-cast-begin Inv-loop μ-loop
-cast-begin c = omega (arith, c .before .before .before .before .before .before .before .before .before .before .pre .1 .1 .few)
+-- the start, from where the buffers are lent to `begin`, from its end, and from the head of a turn
+abbrev start : tie.After-begin-arg2 Inv-loop μ-loop → tie.Start Inv-loop μ-loop
+start c = c .before .before .before .before .before .before .before .before .before .before
 
-begin-requires : tie.Need-begin-requires Inv-loop μ-loop
-begin-requires c κs =
-    let f = c .before .before .before .before .before .before .before .before .before .before .pre .1 .1 in
-    (f .after-fits, f .via-fits)
+abbrev begin-start : tie.After-begin Inv-loop μ-loop → tie.Start Inv-loop μ-loop
+begin-start c = start (c .before)
+
+abbrev turn-start : tie.At-loop Inv-loop μ-loop → tie.Start Inv-loop μ-loop
+turn-start c = begin-start (c .before .before .before .before .before)
 
 loop-holds : tie.Need-loop-holds Inv-loop μ-loop
 loop-holds c =
-    let a = c .before .before .before .before .before .before .before .before .before .before .before .before .before .before .before .args in
-    let f = c .before .before .before .before .before .before .before .before .before .before .before .before .before .before .before .pre .1 .1 in
-    let call = c .before .before .before .before .begin in (
+    let m = c .before .before .before .before in
+    let call = m .begin in
+    let s = begin-start m in (
       search needs,
       refl,
-      call .kept .1 .0 ∙ f .after-fits,
-      call .kept .1 .1 .0 ∙ f .via-fits,
-      lifts-start _ _ _ _ _ (at (a .shares .now)) _ _ (call .last .1 .0) (call .last .1 .1 .0) (call .ensures .0) (call .ensures .1),
+      fitting-same (s .pre .1 .1) (call .kept .1 .0) (call .kept .1 .1 .0),
+      lifts-start (at (s .args .shares .now)) (call .ensures .0) (call .ensures .1),
     )
 
 pass-requires : tie.Need-pass-requires Inv-loop μ-loop
 pass-requires c κs =
-    let p = c .before .before .before .before .before .before .before .before .before .before .before .before .before .before .before .before .before .before .before .pre in
-    let f = p .1 .1 in
-    let l = c .before .before .before .loop in
-    (p .0, (p .1 .0, (record { after-fits = l .inv .2; via-fits = l .inv .3; shares-fit = f .shares-fit; few = f .few; few-sites = f .few-sites }, (omega arith, l .inv .4))))
+    let m = c .before .before .before in
+    let p = turn-start m .pre in
+    let l = m .loop in
+    (p .0, (p .1 .0, (l .inv .2, (omega arith, l .inv .3))))
 
 loop-again : tie.Need-loop-again Inv-loop μ-loop
-loop-again c = (omega arith, refl, search needs, search needs, c .before .before .before .before .pass .ensures)
-
-same-length : tie.Need-same-length Inv-loop μ-loop
-same-length c =
-    let p = c .before .before .before .before .before .before .before .before .before .before .before .before .before .before .before .before .before .pre in
-    omega (arith, p .1 .1 .after-fits)
-
-same-length-2 : tie.Need-same-length-2 Inv-loop μ-loop
-same-length-2 c =
-    let p = c .before .before .before .before .before .before .before .before .before .before .before .before .before .before .before .before .before .pre in
-    omega (arith, p .1 .1 .via-fits)
+loop-again c =
+    let m = c .before .before .before .before in
+    let l = m .before .before .before .before .loop in
+    (omega arith, refl, fitting-same (l .inv .2) (m .pass .kept .1 .0) (m .pass .kept .1 .1 .0), m .pass .ensures)
 
 returns : tie.Need-returns Inv-loop μ-loop
 returns c =
-    let p = c .before .before .before .before .before .before .before .before .before .before .before .before .before .before .before .before .before .pre in
     let l = c .before .loop in
-    lifts-all _ _ _ _ (l .a) _ _ _ _ (omega arith) (p .0 .sites) (l .inv .4)
+    lifts-all (omega arith) (turn-start (c .before) .pre .0 .sites) (l .inv .3)
 
 pub layer-spec : {M : Type 1} → statement M
 layer-spec =
@@ -70,13 +63,13 @@ layer-spec =
     (tie.spec
     Inv-loop
     μ-loop
-    cast-begin
-    begin-requires
+    (λ c. omega (arith, start c .pre .1 .1 .few))
+    (λ c κs. let f = start c .pre .1 .1 in (f .after-fits, f .via-fits))
     loop-holds
     pass-requires
     (λ c. search needs)
     (λ c. search needs)
     loop-again
-    same-length
-    same-length-2
+    (λ c. omega (arith, turn-start (c .before) .pre .1 .1 .after-fits))
+    (λ c. omega (arith, turn-start (c .before) .pre .1 .1 .via-fits))
     returns)

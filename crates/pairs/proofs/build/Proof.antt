@@ -17,27 +17,33 @@ Inv-loop values division w pairs₀ gains₀ a₀ pairs gains a =
 abbrev μ-loop : tie.MeasureT-loop
 μ-loop values division w pairs₀ gains₀ a₀ pairs gains a = w - a
 
+-- the start, from the head of a turn
+abbrev start : tie.At-loop Inv-loop μ-loop → tie.Start Inv-loop μ-loop
+start c = c .before .before .before .before .before
+
 loop-holds : tie.Need-loop-holds Inv-loop μ-loop
 loop-holds c =
-    let a = c .before .before .before .before .args in
-    let p = c .before .before .before .before .pre in
+    let s = c .before .before .before .before in
+    let a = s .args in
+    let p = s .pre in
     (search needs, p .1 .0, p .1 .1, mended-none (a .values .now) (a .division .now) (a .w) (a .pairs .now) (a .gains .now))
 
 renew-requires : tie.Need-renew-requires Inv-loop μ-loop
 renew-requires c κs =
-    let p = c .before .before .before .before .before .before .before .before .pre in
-    let l = c .before .before .before .loop in
-    (p .0, (omega arith, l .inv .1, l .inv .2))
+    let m = c .before .before .before in
+    let l = m .loop in
+    (start m .pre .0, (omega arith, l .inv .1, l .inv .2))
 
 loop-again : tie.Need-loop-again Inv-loop μ-loop
 loop-again c =
-    let a = c .before .before .before .before .before .before .before .before .before .before .before .before .before .args in
-    let l = c .before .before .before .before .before .before .before .before .loop in
-    let next = mended-more _ _ _ (λ x. x) (l .a) (a .w) _ _ _ _ (c .before .before .before .before .renew .ensures) (l .inv .3) in
+    let call = c .before .before .before .before in
+    let m = call .before .before .before .before in
+    let l = m .loop in
+    let next = mended-more (call .renew .ensures) (l .inv .3) in
     (omega arith, search needs, search needs, next)
 
 returns : tie.Need-returns Inv-loop μ-loop
-returns c = let l = c .before .loop in mended-all _ _ _ (λ x. x) (l .a) _ _ _ (omega arith) (l .inv .1) (l .inv .2) (l .inv .3)
+returns c = let l = c .before .loop in mended-all (omega arith) (l .inv .1) (l .inv .2) (l .inv .3)
 
 pub build-spec : {M : Type 1} → statement M
 build-spec =

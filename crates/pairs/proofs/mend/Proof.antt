@@ -18,6 +18,10 @@ Inv-loop values division w sites from count pairs₀ gains₀ to i₀ pairs gain
 abbrev μ-loop : tie.MeasureT-loop
 μ-loop values division w sites from count pairs₀ gains₀ to i₀ pairs gains i = from + count - i
 
+-- the start, from the head of a turn
+abbrev start : tie.At-loop Inv-loop μ-loop → tie.Start Inv-loop μ-loop
+start c = c .before .before .before .before .before .before
+
 loop-holds : tie.Need-loop-holds Inv-loop μ-loop
 loop-holds c = (search needs, search needs, search needs, search needs, c .before .before .before .before .before .pre .1 .1 .1)
 
@@ -26,19 +30,22 @@ cast-renew c = omega (arith, c .shared-slice-known4 .given (c .before .before .l
 
 renew-requires : tie.Need-renew-requires Inv-loop μ-loop
 renew-requires c κs =
-    let p = c .before .before .before .before .before .before .before .before .before .before .pre in
-    let l = c .before .before .before .before .loop in
+    let m = c .before .before .before .before in
+    let p = start m .pre in
+    let l = m .loop in
     (p .0, (p .1 .1 .0 (l .i) (l .inv .0) (omega arith), l .inv .2, l .inv .3))
 
 loop-again : tie.Need-loop-again Inv-loop μ-loop
 loop-again c =
-    let a = c .before .before .before .before .before .before .before .before .before .before .before .before .before .before .before .args in
-    let l = c .before .before .before .before .before .before .before .before .before .loop in
-    let next = mended-more _ _ _ (at (a .sites .now)) (l .i) (a .from + a .count) _ _ _ _ (c .before .before .before .before .renew .ensures) (l .inv .4) in
+    let call = c .before .before .before .before in
+    let m = call .before .before .before .before .before in
+    let a = start m .args in
+    let l = m .loop in
+    let next = mended-more (call .renew .ensures) (l .inv .4) in
     (omega arith, omega arith, search needs, search needs, next)
 
 returns : tie.Need-returns Inv-loop μ-loop
-returns c = let l = c .before .loop in mended-all _ _ _ _ (l .i) _ _ _ (omega arith) (l .inv .2) (l .inv .3) (l .inv .4)
+returns c = let l = c .before .loop in mended-all (omega arith) (l .inv .2) (l .inv .3) (l .inv .4)
 
 pub mend-spec : {M : Type 1} → statement M
 mend-spec =

@@ -4,7 +4,7 @@ use mathlib.Core.Logic.{_≢_}
 use Prim.Native.Nat.{ℕ, _-_, _≤_, _<_}
 use native.Mathlib.Omega.{arith}
 use Rattle.counting.specs.Lists.{at}
-use Rattle.rings.proofs.Back.{not-next}
+use Rattle.rings.proofs.WalkBack.{not-next}
 use Rattle.rings.proofs.find.Statement.{statement}
 use Rattle.rings.proofs.find.Tie as tie
 

@@ -4,8 +4,9 @@ use mathlib.Core.Path.{_≡_, refl}
 use Prim.Native.Nat.{_+_, _-_, _*_, _≤_}
 use native.Mathlib.Omega.{arith}
 use lib.ListN.{length}
+use Rattle.counting.specs.Bounds.{mostEntries}
 use Rattle.counting.proofs.Parts.{part-length}
-use Rattle.starts.proofs.Giving.{row-ends, Giving, giving-none, giving-some, giving-more, giving-end}
+use Rattle.starts.proofs.FirstDivision.{row-ends, Giving, giving-none, giving-some, giving-more, giving-end}
 use Rattle.starts.proofs.begin.Statement.{statement}
 use Rattle.starts.proofs.begin.Tie as tie
 
@@ -16,25 +17,26 @@ Inv-loop values shares left₀ division₀ w s₀ s-end left division s =
 abbrev μ-loop : tie.MeasureT-loop
 μ-loop values shares left₀ division₀ w s₀ s-end left division s = s-end - s
 
--- the street's row lies within the table
-ends : (c : tie.In-loop Inv-loop μ-loop) →
-    let a = c .before .before .before .before .before .before .before .before .before .before .args in
-    let w = length (a .shares .now) in
-    (c .before .loop .s * w + w ≤ length (a .values .now)) × (length (a .values .now) ≤ 26000)
-ends c =
-    let s = c .before .before .before .before .before .before .before .before .before .before in
-    row-ends (s .args .values .now) (s .args .shares .now) (length (s .args .division .now)) (c .before .loop .s) (s .pre .0) (omega arith)
+abbrev entry : tie.After-slice-known3 Inv-loop μ-loop → tie.Start Inv-loop μ-loop
+entry i = i .before .before .before .before .before .before .before .before
 
--- a site's number is at most 64
+abbrev start : tie.At-loop Inv-loop μ-loop → tie.Start Inv-loop μ-loop
+start l = entry (l .before)
+
+-- in a turn: the street's row lies within the table
+ends : (c : tie.In-loop Inv-loop μ-loop) → let a = start (c .before) .args in let w = length (a .shares .now) in
+    (c .before .loop .s * w + w ≤ length (a .values .now)) × (length (a .values .now) ≤ mostEntries)
+ends c = row-ends (c .before .loop .s) (start (c .before) .pre .0) (omega arith)
+
+-- once a site is found: its number is at most 64
+abbrev turn : tie.After-best-left Inv-loop μ-loop → tie.At-loop Inv-loop μ-loop
+turn i = i .before .before .before .before
+
 low : (c : tie.After-best-left Inv-loop μ-loop) → c .best-left .result ≤ 64
-low c =
-    let p = c .before .before .before .before .before .before .before .before .before .before .before .before .before .pre in
-    omega (arith, p .0 .few-sites, c .before .before .before .before .loop .inv .3 .size, c .best-left .ensures .0)
+low c = omega (arith, start (turn c) .pre .0 .few-sites, turn c .loop .inv .3 .size, c .best-left .ensures .0)
 
 loop-holds : tie.Need-loop-holds Inv-loop μ-loop
-loop-holds c =
-    let p = c .before .before .before .before .before .before .before .before .pre in
-    (search needs, refl, refl, giving-none _ _ _ (c .before .before .copy .ensures) (p .1 .0))
+loop-holds c = (search needs, refl, refl, giving-none _ (c .before .before .copy-words .ensures) (entry c .pre .1 .0))
 
 mul-from : tie.Need-mul-from Inv-loop μ-loop
 mul-from c = omega (arith, ends c)
@@ -50,13 +52,12 @@ part-best-left-end c = omega (arith, ends c)
 
 best-left-requires : tie.Need-best-left-requires Inv-loop μ-loop
 best-left-requires c κs =
-    let a = c .before .before .before .before .before .before .before .before .before .before .before .before .args in
-    let p = c .before .before .before .before .before .before .before .before .before .before .before .before .pre in
+    let a = start (c .before .before .before) .args in
+    let p = start (c .before .before .before) .pre in
     let l = c .before .before .before .loop in
-    let w = length (a .shares .now) in
-    let n = length (a .division .now) in (
+    let w = length (a .shares .now) in (
       omega (arith, part-length (l .s * w) (l .s * w + w) (a .values .now) (ends (c .before .before) .0), l .inv .3 .size),
-      giving-some (a .shares .now) (l .left) (l .division) n (l .s) (p .0 .nobody) (l .inv .3) (omega arith),
+      giving-some (p .0 .nobody) (l .inv .3) (omega arith),
     )
 
 mul-left : tie.Need-mul-left Inv-loop μ-loop
@@ -70,19 +71,12 @@ cast-division c = omega (arith, low (c .before))
 
 loop-again : tie.Need-loop-again Inv-loop μ-loop
 loop-again c =
-    let a = c .before .before .before .before .before .before .before .before .before .before .before .before .before .before .args in
-    let p = c .before .before .before .before .before .before .before .before .before .before .before .before .before .before .pre in
-    let l = c .before .before .before .before .before .loop in
-    let n = length (a .division .now) in
     let t = c .before .best-left in
-    (omega arith, refl, refl, giving-more (a .shares .now) (l .left) (l .division) n (l .s) (p .0 .nobody) (l .inv .3) (t .result) (omega arith) (t .ensures .1))
+    let nobody = start (turn (c .before)) .pre .0 .nobody in
+    (omega arith, refl, refl, giving-more nobody (turn (c .before) .loop .inv .3) (t .result) (omega arith) (t .ensures .1))
 
 returns : tie.Need-returns Inv-loop μ-loop
-returns c =
-    let a = c .before .before .before .before .before .before .before .before .before .before .args in
-    let p = c .before .before .before .before .before .before .before .before .before .before .pre in
-    let l = c .before .loop in
-    giving-end (a .shares .now) (l .left) (l .division) (length (a .division .now)) (l .s) (p .0 .nobody) (l .inv .3) (omega arith)
+returns c = giving-end (start (c .before) .pre .0 .nobody) (c .before .loop .inv .3) (omega arith)
 
 pub begin-spec : {M : Type 1} → statement M
 begin-spec =

@@ -5,7 +5,7 @@ use Prim.Native.Nat.{_≤_, _-_}
 use native.Mathlib.Omega.{arith}
 use lib.ListN.{length}
 use Rattle.starts.specs.Given.{Seen}
-use Rattle.starts.proofs.Giving.{seen-start, seen-end}
+use Rattle.starts.proofs.FirstDivision.{seen-start, seen-end}
 use Rattle.starts.proofs.best_left.Statement.{statement}
 use Rattle.starts.proofs.best_left.Tie as tie
 

@@ -1,7 +1,7 @@
 -- `starts::better` meets its contract. Assumes nothing.
 use borrow.Author.Needs.{needs}
 use native.Mathlib.Omega.{arith}
-use Rattle.starts.proofs.Giving.{seen-keep, seen-take}
+use Rattle.starts.proofs.FirstDivision.{seen-keep, seen-take}
 use Rattle.starts.proofs.better.Statement.{statement}
 use Rattle.starts.proofs.better.Tie as tie
 

@@ -4,7 +4,7 @@ use mathlib.Core.Path.{_≡_, refl}
 use Prim.Native.Nat.{_≤_, _-_}
 use native.Mathlib.Omega.{arith}
 use lib.ListN.{length}
-use Rattle.starts.proofs.Sharing.{Sharing, sharing-none, sharing-more, sharing-end}
+use Rattle.starts.proofs.EqualShares.{Sharing, sharing-none, sharing-more, sharing-end}
 use Rattle.starts.proofs.share_out.Statement.{statement}
 use Rattle.starts.proofs.share_out.Tie as tie
 

@@ -1,7 +1,7 @@
 -- `ties::aim` meets its contract. Assumes nothing.
 use borrow.Author.Needs.{needs}
 use mathlib.Core.Path.{_≡_, refl, _∙_}
-use Prim.Native.Nat.{_≤_, _-_}
+use Prim.Native.Nat.{_≤_, _<_, _-_}
 use native.Mathlib.Omega.{arith}
 use lib.ListN.{length}
 use borrow.Author.Count.{below-more}
@@ -20,45 +20,61 @@ Inv-loop values shares prices division s limits₀ a b₀ limits b =
 abbrev μ-loop : tie.MeasureT-loop
 μ-loop values shares prices division s limits₀ a b₀ limits b = a - b
 
+-- before the loop: the street's own site is one of the sites
+abbrev entry : tie.After-shared-slice-known5 Inv-loop μ-loop → tie.Start Inv-loop μ-loop
+entry i = i .before .before .before .before .before .before
+
+own : (s : tie.Start Inv-loop μ-loop) → let a = s .args in at (a .division .now) (a .s) < length (a .shares .now)
+own s = s .pre .0 .sited (s .args .s) (s .pre .1 .0 .0)
+
+-- once a site is looked at
+abbrev turn : tie.After-reach Inv-loop μ-loop → tie.At-loop Inv-loop μ-loop
+turn i = i .before .before .before
+
+abbrev found : tie.Then1 Inv-loop μ-loop → tie.After-reach Inv-loop μ-loop
+found i = i .before .before .before
+
+abbrev missed : tie.Else1 Inv-loop μ-loop → tie.After-reach Inv-loop μ-loop
+missed i = i .before .before .before
+
 cast-a : tie.Need-cast-a Inv-loop μ-loop
-cast-a c =
-    let start = c .before .before .before .before .before .before in
-    let p = start .pre in
-    omega (arith, p .0 .few-sites, p .0 .sited (start .args .s) (p .1 .0 .0))
+cast-a c = omega (arith, entry c .pre .0 .few-sites, own (entry c))
 
 loop-holds : tie.Need-loop-holds Inv-loop μ-loop
-loop-holds c = (omega arith, refl, refl, λ b l. absurd (omega arith), c .before .before .before .before .before .before .pre .1 .1)
+loop-holds c = (omega arith, refl, refl, λ b l. absurd (omega arith), entry c .pre .1 .1)
 
 reach-requires : tie.Need-reach-requires Inv-loop μ-loop
 reach-requires c κs =
-    let l = c .before .before .loop in
-    let start = c .before .before .before .before .before .before .before .before .before in
-    let a = start .args in
-    let p = start .pre in
-    (p .0, ((p .1 .0 .0, omega (arith, p .0 .sited (a .s) (p .1 .0 .0), l .inv .1), omega (arith, l .inv .2, p .1 .0 .1)), l .inv .4))
+    let i = c .before .before .loop .inv in
+    let p = entry (c .before .before .before) .pre in
+    (p .0, ((p .1 .0 .0, omega (arith, own (entry (c .before .before .before)), i .1), omega (arith, i .2, p .1 .0 .1)), i .4))
 
 same-length : tie.Need-same-length Inv-loop μ-loop
-same-length c = c .before .before .before .reach .kept .1 .1 .1 .1 .1 .1 .0 ∙ c .before .before .before .before .before .before .loop .inv .2
+same-length c = found c .reach .kept .1 .1 .1 .1 .1 .1 .0 ∙ turn (found c) .loop .inv .2
 
 returns : tie.Need-returns Inv-loop μ-loop
 returns c =
-    let l = c .before .before .before .before .before .before .loop in
-    let e = c .before .before .before .reach .ensures in
-    let y = e .0 (c .if1 .taken) in
-    (record { within = omega arith; tight = y .0; loose = λ b m some t. omega (arith, e .1 .1 .1 b, l .inv .3 b m some t); left = λ m. y .1 }, e .1 .1 .0)
+    let i = turn (found c) .loop .inv in
+    let (reached, (missing, (limits, lower))) = found c .reach .ensures in
+    let (tight, left) = reached (c .if1 .taken) in
+    (record { within = omega arith; tight = tight; loose = λ b m some t. omega (arith, lower b, i .3 b m some t); left = λ m. left }, limits)
 
 add-b : tie.Need-add-b Inv-loop μ-loop
 add-b c =
-    let l = c .before .before .before .before .before .before .loop in
-    let start = c .before .before .before .before .before .before .before .before .before .before .before .before .before in
-    omega (arith, l .inv .1, start .pre .0 .few-sites, start .pre .0 .sited (start .args .s) (start .pre .1 .0 .0))
+    let i = turn (missed c) .loop .inv in
+    omega (arith, i .1, entry (turn (missed c) .before) .pre .0 .few-sites, own (entry (turn (missed c) .before)))
 
 loop-again : tie.Need-loop-again Inv-loop μ-loop
 loop-again c =
-    let l = c .before .before .before .before .before .before .loop in
-    let r = c .before .before .before .reach in
-    let e = r .ensures in
-    (omega arith, l .inv .1, r .kept .1 .1 .1 .1 .1 .1 .0 ∙ l .inv .2, below-more _ _ (λ b m some t. omega (arith, e .1 .1 .1 b, l .inv .3 b m some t)) (e .1 .0 (c .if1 .left)), e .1 .1 .0)
+    let i = turn (missed c) .loop .inv in
+    let r = missed c .reach in
+    let (reached, (missing, (limits, lower))) = r .ensures in (
+      omega arith,
+      i .1,
+      r .kept .1 .1 .1 .1 .1 .1 .0 ∙ i .2,
+      below-more _ _ (λ b m some t. omega (arith, lower b, i .3 b m some t)) (missing (c .if1 .left)),
+      limits,
+    )
 
 same-length-2 : tie.Need-same-length-2 Inv-loop μ-loop
 same-length-2 c = c .before .loop .inv .2

@@ -4,40 +4,55 @@ use mathlib.Core.Path.{refl, _∙_}
 use Prim.Native.Nat.{ℕ}
 use native.Mathlib.Omega.{arith}
 use lib.ListN.{replicate, length-replicate}
-use Rattle.queues.proofs.Listing.{rows-same, rows-room}
-use Rattle.queues.proofs.Limiting.{limits-start}
-use Rattle.ties.proofs.Settled.{scene-of, standing-start}
+use Rattle.counting.specs.Bounds.{mostWidth}
+use Rattle.queues.specs.Tights.{mostTights}
+use Rattle.queues.proofs.TightRows.{rows-same, rows-room}
+use Rattle.queues.proofs.LeaveLimits.{limits-start}
+use Rattle.ties.proofs.PassSteps.{scene-of, standing-start}
 use Rattle.ties.proofs.settle.Statement.{statement}
 use Rattle.ties.proofs.settle.Tie as tie
 
+-- before the limits are filled, once they are, and once the tight streets are listed
+abbrev entry : tie.After-limits → tie.Start
+entry i = i .before .before .before .before .before .before .before .before .before
+
+abbrev filled : tie.After-list-sites → tie.After-fill
+filled i = i .before .before .before .before .before
+
+abbrev listed : tie.After-limits3 → tie.After-list-sites
+listed i = i .before .before .before .before .before .before .before .before .before .before
+
 cast-fill : tie.Need-cast-fill
-cast-fill c =
-    let p = c .before .before .before .before .before .before .before .before .before .pre in
-    omega (arith, p .0 .few)
+cast-fill c = omega (arith, entry c .pre .0 .few)
 
 list-sites-requires : tie.Need-list-sites-requires
 list-sites-requires c κs =
-    let start = c .before .before .before .before .before .before .before .before .before .before .before .before .before .before in
-    let a = start .args in
-    let p = start .pre in
-    (scene-of (a .prices .now) (a .division .now) (p .0) (p .1 .1 .0) (p .1 .0), rows-room _ _ (p .0 .few-sites) (p .0 .few))
+    let s = entry (c .before .before .before .before .before) in
+    let p = s .pre in
+    (scene-of (s .args .prices .now) (s .args .division .now) (p .0) (p .1 .1 .0) (p .1 .0), rows-room _ _ (p .0 .few-sites) (p .0 .few))
 
 settle-streets-requires : tie.Need-settle-streets-requires
 settle-streets-requires c κs =
-    let t = c .before .before .before .before .before .before .before .before .before .before in
-    let k = t .list-sites .kept in
-    let tights = t .list-sites .last .1 .1 .1 .1 .0 in
-    let ends = t .list-sites .last .1 .1 .1 .1 .1 .0 in
-    let f = c .before .before .before .before .before .before .before .before .before .before .before .before .before .before .before .fill in
-    let size = f .ensures .size ∙ length-replicate {A = ℕ} 65 0 in
-    let start = c .before .before .before .before .before .before .before .before .before .before .before .before .before .before .before .before .before .before .before .before .before .before .before .before .before in
-    let a = start .args in
-    let p = start .pre in
+    let list = listed c .list-sites in
+    let (tights, (ends, _)) = list .kept .1 .1 .1 .1 in
+    let fill = filled (listed c) .fill in
+    let size = fill .ensures .size ∙ length-replicate {A = ℕ} mostWidth 0 in
+    let a = entry (filled (listed c) .before) .args in
+    let p = entry (filled (listed c) .before) .pre in
     let scene = scene-of (a .prices .now) (a .division .now) (p .0) (p .1 .1 .0) (p .1 .0) in
-    let rows = rows-same _ (replicate 26065 0) (replicate 65 0) tights ends refl (k .1 .1 .1 .1 .0) (k .1 .1 .1 .1 .1 .0) (rows-room _ _ (p .0 .few-sites) (p .0 .few)) in
-    let limits = limits-start 0 (a .division .now) (replicate 65 0) (f .last .0) (f .ensures) (λ s l. omega (arith, scene .sited s l, scene .few-sites, length-replicate {A = ℕ} 65 0)) in
-    let settled = standing-start _ _ _ _ (p .1 .0) (p .1 .1 .1 .0) in
-    (p .0, (p .1 .1 .0, (p .1 .1 .1 .1, ((rows, t .list-sites .ensures), (settled, (omega (arith, scene .few-sites, size), limits))))))
+    let room = rows-room _ _ (p .0 .few-sites) (p .0 .few) in (
+      record {
+        problem = p .0;
+        price = p .1 .1 .0;
+        standing = standing-start _ _ _ _ (p .1 .0) (p .1 .1 .1 .0);
+        rows = rows-same _ (replicate mostTights 0) (replicate mostWidth 0) (list .last .1 .1 .1 .1 .0) (list .last .1 .1 .1 .1 .1 .0) refl tights ends room;
+        listed = list .ensures;
+        fits = omega (arith, scene .few-sites, size);
+        limited = limits-start 0 (a .division .now) (replicate mostWidth 0) (fill .last .0) (fill .ensures)
+            (λ s l. omega (arith, scene .sited s l, scene .few-sites, length-replicate {A = ℕ} mostWidth 0));
+      },
+      p .1 .1 .1 .1,
+    )
 
 pub settle-spec : {M : Type 1} → statement M
 settle-spec =

@@ -9,7 +9,7 @@ cast-if1 : tie.Need-cast-if1
 cast-if1 c = omega (arith, c .shared-slice-known .given (c .before .args .b))
 
 returns : tie.Need-returns
-returns c = raised-skip _ _ _ (c .before .before .args .b) _ (omega arith) (c .before .before .pre .1)
+returns c = raised-skip (omega arith) (c .before .before .pre .1)
 
 pub higher-spec : {M : Type 1} → statement M
 higher-spec =

@@ -17,7 +17,7 @@ abbrev μ-loop : tie.MeasureT-loop
 μ-loop prices via n top₀ b₀ b-end top b = b-end - b
 
 loop-holds : tie.Need-loop-holds Inv-loop μ-loop
-loop-holds c = (search needs, refl, raised-start _ _ _)
+loop-holds c = (search needs, refl, raised-start)
 
 higher-requires : tie.Need-higher-requires Inv-loop μ-loop
 higher-requires c κs = ((c .before .before .before .before .pre, omega arith), c .before .loop .inv .2)
@@ -26,7 +26,7 @@ loop-again : tie.Need-loop-again Inv-loop μ-loop
 loop-again c = (omega arith, refl, c .higher .ensures)
 
 returns : tie.Need-returns Inv-loop μ-loop
-returns c = let l = c .before .loop in raised-done _ _ _ (l .b) _ (omega arith) (l .inv .2)
+returns c = let l = c .before .loop in raised-done (omega arith) (l .inv .2)
 
 pub highest-spec : {M : Type 1} → statement M
 highest-spec =

@@ -5,7 +5,7 @@ use native.Mathlib.Omega.{arith}
 use lib.ListN.{length}
 use Rattle.counting.proofs.Tables.{row-within}
 use Rattle.compact.specs.Numbered.{Columns}
-use Rattle.compact.proofs.Columning.{columns-none, row-asks, columns-size, columns-more, columns-end}
+use Rattle.compact.proofs.SmallTable.{columns-none, row-asks, columns-more, columns-end}
 use borrow.Author.Needs.{needs}
 use Rattle.compact.proofs.columns.fill.Statement.{statement}
 use Rattle.compact.proofs.columns.fill.Tie as tie
@@ -16,16 +16,19 @@ Inv-loop values w sites k n table₀ s₀ table s = (s ≤ n) × (length table �
 abbrev μ-loop : tie.MeasureT-loop
 μ-loop values w sites k n table₀ s₀ table s = n - s
 
+abbrev entry : tie.At-loop Inv-loop μ-loop → tie.Start Inv-loop μ-loop
+entry i = i .before .before .before .before
+
 -- in a turn: the ends of the street's row in both tables are within them
-ends : (c : tie.In-loop Inv-loop μ-loop) → let a = c .before .before .before .before .before .args in let s = c .before .loop .s in
+ends : (c : tie.In-loop Inv-loop μ-loop) → let a = entry (c .before) .args in let s = c .before .loop .s in
     (s * a .w + a .w ≤ a .n * a .w) × (s * a .k + a .k ≤ a .n * a .k)
 ends c =
-    let a = c .before .before .before .before .before .args in
+    let a = entry (c .before) .args in
     let s = c .before .loop .s in
     (row-within (a .n) (a .w) s (omega arith), row-within (a .n) (a .k) s (omega arith))
 
 loop-holds : tie.Need-loop-holds Inv-loop μ-loop
-loop-holds c = (search needs, c .before .before .before .pre .0 .1, columns-none _ _ _ _ _ (c .before .before .before .pre .1 .1 .1))
+loop-holds c = let p = c .before .before .before .pre in (search needs, p .0 .1, columns-none _ _ _ _ _ (p .1 .1 .1))
 
 mul-from : tie.Need-mul-from Inv-loop μ-loop
 mul-from c = omega (arith, ends c)
@@ -65,22 +68,26 @@ part-fill-row-end-2 c = omega (arith, ends (c .before))
 
 fill-row-requires : tie.Need-fill-row-requires Inv-loop μ-loop
 fill-row-requires c κs =
-    let t = c .before .before .before .loop in
-    let s = c .before .before .before .before .before .before .before in
-    row-asks (s .args .values .now) (s .args .w) (s .args .sites .now) (t .table) (s .args .k) (s .args .n) (t .s) (omega arith) (s .pre .0 .0) (t .inv .1) (s .pre .1 .0 .0) (s .pre .1 .0 .1)
+    let h = c .before .before .before .loop .inv in
+    let p = entry (c .before .before .before) .pre in
+    row-asks (h .2) _ (omega arith) (p .0 .0) (h .1) (p .1 .0 .0) (p .1 .0 .1)
 
 loop-again : tie.Need-loop-again Inv-loop μ-loop
 loop-again c =
-    let t = c .before .before .before .before .before .before .loop in
-    let s = c .before .before .before .before .before .before .before .before .before .before in
+    let h = c .before .before .before .before .before .before .loop .inv in
+    let p = entry (c .before .before .before .before .before .before) .pre in
     let call = c .before .before .fill-row in
-    (search needs, columns-size (s .args .values .now) (s .args .w) (s .args .sites .now) (t .table) (s .args .k) (s .args .n) (t .s) (omega arith) (s .pre .0 .0) (t .inv .1) (s .pre .1 .0 .0) (s .pre .1 .0 .1) (s .pre .1 .1 .0) (t .inv .2) (call .last .1 .1 .0) (call .kept .1 .1 .0) (call .ensures), columns-more (s .args .values .now) (s .args .w) (s .args .sites .now) (t .table) (s .args .k) (s .args .n) (t .s) (omega arith) (s .pre .0 .0) (t .inv .1) (s .pre .1 .0 .0) (s .pre .1 .0 .1) (s .pre .1 .1 .0) (t .inv .2) (call .last .1 .1 .0) (call .kept .1 .1 .0) (call .ensures))
+    let more =
+    columns-more (h .2) _ (omega arith) (p .0 .0) (h .1) (p .1 .0 .0) (p .1 .0 .1) (p .1 .1 .0) (call .last .1 .1 .0) (call .kept .1 .1 .0)
+    (call .ensures)
+    in
+    (search needs, more .0, more .1)
 
 same-length : tie.Need-same-length Inv-loop μ-loop
-same-length c = c .before .loop .inv .1 ∙ sym (c .before .before .before .before .before .pre .0 .1)
+same-length c = c .before .loop .inv .1 ∙ sym (entry (c .before) .pre .0 .1)
 
 returns : tie.Need-returns Inv-loop μ-loop
-returns c = columns-end _ _ _ _ _ _ _ (omega arith) (c .before .loop .inv .2)
+returns c = columns-end (omega arith) (c .before .loop .inv .2)
 
 pub fill-spec : {M : Type 1} → statement M
 fill-spec =

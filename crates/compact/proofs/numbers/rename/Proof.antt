@@ -23,10 +23,15 @@ cast-a : tie.Need-cast-a Inv-loop μ-loop
 cast-a c = omega (arith, c .slice-known .given (c .before .before .loop .s))
 
 shared-slice-read-division : tie.Need-shared-slice-read-division Inv-loop μ-loop
-shared-slice-read-division c = let l = c .before .before .before .loop in omega (arith, c .before .before .before .before .pre (l .s) (omega arith), l .inv .2 .rest (l .s) (omega arith))
+shared-slice-read-division c =
+    let l = c .before .before .before .loop in
+    omega (arith, c .before .before .before .before .pre (l .s) (omega arith), l .inv .2 .rest (l .s) (omega arith))
 
 loop-again : tie.Need-loop-again Inv-loop μ-loop
-loop-again c = let l = c .before .before .before .loop in (omega arith, refl, mapped-more (λ i x. at (c .before .before .before .before .args .names .now) x) _ (l .division) (l .s) _ (omega arith) (l .inv .2) refl)
+loop-again c =
+    let l = c .before .before .before .loop in
+    let names = at (c .before .before .before .before .args .names .now) in
+    (omega arith, refl, mapped-more (λ i x. names x) _ (l .division) (l .s) _ (omega arith) (l .inv .2) refl)
 
 returns : tie.Need-returns Inv-loop μ-loop
 returns c = let l = c .before .loop in mapped-map (at (c .before .before .args .names .now)) _ _ (l .s) (omega arith) (l .inv .2)

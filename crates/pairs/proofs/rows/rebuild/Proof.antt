@@ -18,24 +18,28 @@ Inv-loop values division w a pairs₀ gains₀ s₀ s-end pairs gains s =
 abbrev μ-loop : tie.MeasureT-loop
 μ-loop values division w a pairs₀ gains₀ s₀ s-end pairs gains s = s-end - s
 
+-- the start, from where the gains are cleared
+abbrev start : tie.After-clear-numbers Inv-loop μ-loop → tie.Start Inv-loop μ-loop
+start c = c .before .before .before .before .before .before
+
 loop-holds : tie.Need-loop-holds Inv-loop μ-loop
 loop-holds c =
-    let a = c .before .before .before .before .before .before .before .before .args in
-    let p = c .before .before .before .before .before .before .before .before .pre in
-    let call = c .before .before .clear in
-    (search needs, refl, search needs, search needs, row-start _ _ _ _ _ (a .gains .now) (call .last .0) (at (a .pairs .now)) (p .1 .2) (call .ensures))
+    let a = start (c .before .before) .args in
+    let call = c .before .before .clear-numbers in
+    (search needs, refl, search needs, search needs, row-start (length (a .gains .now)) (call .last .0) (at (a .pairs .now)) (call .ensures))
 
 visit-requires : tie.Need-visit-requires Inv-loop μ-loop
 visit-requires c κs =
-    let p = c .before .before .before .before .before .before .before .before .before .before .before .before .pre in
-    let l = c .before .before .before .loop in
+    let m = c .before .before .before in
+    let p = start (m .before .before .before) .pre in
+    let l = m .loop in
     (p .0, ((omega arith, p .1 .0, l .inv .2, l .inv .3), l .inv .4))
 
 loop-again : tie.Need-loop-again Inv-loop μ-loop
 loop-again c = (omega arith, refl, search needs, search needs, c .before .before .before .before .visit .ensures)
 
 returns : tie.Need-returns Inv-loop μ-loop
-returns c = let l = c .before .loop in row-end _ _ _ _ (l .s) _ _ _ (omega arith) (omega arith) (l .inv .4)
+returns c = let l = c .before .loop in row-end (omega arith) (omega arith) (l .inv .4)
 
 pub rebuild-spec : {M : Type 1} → statement M
 rebuild-spec =

@@ -9,7 +9,7 @@ cast-site : tie.Need-cast-site
 cast-site c = omega (arith, c .shared-slice-known3 .given (c .before .before .before .before .before .args .s))
 
 returns : tie.Need-returns
-returns c = row-skip _ _ _ _ _ _ _ _ (c .if1 .taken) (c .before .before .before .before .before .before .pre .1 .1)
+returns c = row-skip (c .if1 .taken) (c .before .before .before .before .before .before .pre .1 .1)
 
 pub visit-spec : {M : Type 1} → statement M
 visit-spec =

@@ -1,7 +1,7 @@
 -- `queues::limits::raise` meets its contract. Assumes nothing.
 use borrow.Author.Needs.{needs}
 use native.Mathlib.Omega.{arith}
-use Rattle.queues.proofs.Limiting.{raised-still, raised-now}
+use Rattle.queues.proofs.LeaveLimits.{raised-still, raised-now}
 use Rattle.queues.proofs.limits.raise.Statement.{statement}
 use Rattle.queues.proofs.limits.raise.Tie as tie
 

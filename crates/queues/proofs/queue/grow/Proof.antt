@@ -5,8 +5,8 @@ use native.Mathlib.Omega.{arith}
 use lib.ListN.{length}
 use Rattle.counting.specs.Lists.{at, cell}
 use Rattle.queues.specs.Queue.{Grown}
-use Rattle.queues.proofs.Growth.{placed-fits, grown-start, grown-end}
-use Rattle.queues.proofs.Bounds.{room-same}
+use Rattle.queues.proofs.QueueGrowth.{placed-fits, grown-start, grown-end}
+use Rattle.queues.proofs.ReadBounds.{room-same}
 use Rattle.queues.proofs.queue.grow.Statement.{statement}
 use Rattle.queues.proofs.queue.grow.Tie as tie
 
@@ -18,53 +18,58 @@ Inv-loop values prices w division s tights ends streets₀ nexts₀ sites₀ fla
 abbrev μ-loop : tie.MeasureT-loop
 μ-loop values prices w division s tights ends streets₀ nexts₀ sites₀ flags₀ count₀ i₀ streets nexts sites flags count i = w - i
 
+-- before the queue has one place, and once it has
+abbrev entry : tie.After-start-arg2 Inv-loop μ-loop → tie.Start Inv-loop μ-loop
+entry i = i .before .before .before .before .before .before .before .before .before .before .before
+
+abbrev first : tie.After-slice-known6 Inv-loop μ-loop → tie.After-start Inv-loop μ-loop
+first i = i .before .before .before .before
+
+abbrev begun : tie.At-loop Inv-loop μ-loop → tie.After-start Inv-loop μ-loop
+begun l = first (l .before)
+
+-- before a place is looked at, and once it is
+abbrev turn : tie.After-scan-arg4 Inv-loop μ-loop → tie.At-loop Inv-loop μ-loop
+turn i = i .before .before .before .before .before
+
+abbrev looked : tie.After-slice-known10 Inv-loop μ-loop → tie.After-scan Inv-loop μ-loop
+looked i = i .before .before .before .before .before .before .before .before
+
 start-requires : tie.Need-start-requires Inv-loop μ-loop
 start-requires c κs =
-    let start = c .before .before .before .before .before .before .before .before .before .before .before in
-    let p = start .pre in
-    let small = p .0 .sited (start .args .s) (p .1 .1 .0) in
+    let p = entry c .pre in
+    let small = p .0 .sited (entry c .args .s) (p .1 .1 .0) in
     (p .1 .1 .0, omega (arith, p .1 .0 .flags-fit), omega (arith, p .1 .0 .sites-fit))
 
 loop-holds : tie.Need-loop-holds Inv-loop μ-loop
 loop-holds c =
-    let t = c .before .before .before .before in
-    let start = t .before .before .before .before .before .before .before .before .before .before .before .before in
-    let p = start .pre in
-    let e = t .start .ensures in
-    let placed = e .1 (start .args .w) (p .0 .sited (start .args .s) (p .1 .1 .0)) in
+    let e = first c .start .ensures in
+    let s = entry (first c .before) in
+    let placed = e .1 (s .args .w) (s .pre .0 .sited (s .args .s) (s .pre .1 .1 .0)) in
     (omega arith, refl, refl, refl, refl, grown-start _ _ _ _ (e .0) placed)
 
 scan-requires : tie.Need-scan-requires Inv-loop μ-loop
 scan-requires c κs =
-    let l = c .before .before .before .before .before in
-    let i = l .loop .inv in
-    let t = l .before .before .before .before .before in
-    let k = t .start .kept in
-    let p = t .before .before .before .before .before .before .before .before .before .before .before .before .pre in
+    let i = turn c .loop .inv in
+    let k = begun (turn c) .start .kept in
+    let p = entry (begun (turn c) .before) .pre in
     let room = room-same (i .1) (i .2) (i .3 ∙ k .1 .1 .0) (i .4 ∙ k .1 .1 .1 .0) (p .1 .0) in
     (p .0, (room, ((omega arith, p .1 .1 .0), (p .1 .1 .1, i .5))))
 
 add-i : tie.Need-add-i Inv-loop μ-loop
 add-i c =
-    let l = c .before .before .before .before .before .before .before .before .before .before .before .before .before .before in
-    let start = l .before .before .before .before .before .before .before .before .before .before .before .before .before .before .before .before .before in
-    omega (arith, start .pre .0 .few-sites, placed-fits (l .loop .inv .5 .placed))
+    let i = turn (looked c .before) .loop .inv in
+    omega (arith, entry (begun (turn (looked c .before)) .before) .pre .0 .few-sites, placed-fits (i .5 .placed))
 
 loop-less : tie.Need-loop-less Inv-loop μ-loop
-loop-less c =
-    let l = c .before .before .before .before .before .before .before .before .before .before .before .before .before .before in
-    omega (arith, placed-fits (l .loop .inv .5 .placed))
+loop-less c = omega (arith, placed-fits (turn (looked c .before) .loop .inv .5 .placed))
 
 loop-again : tie.Need-loop-again Inv-loop μ-loop
 loop-again c =
-    let t = c .before .before .before .before .before .before .before .before in
-    let k = t .scan .kept in
-    let i = t .before .before .before .before .before .before .loop .inv in
-    let streets = k .1 .1 .1 .1 .1 .1 .1 .1 .1 .0 ∙ i .1 in
-    let nexts = k .1 .1 .1 .1 .1 .1 .1 .1 .1 .1 .0 ∙ i .2 in
-    let sites = k .1 .1 .1 .1 .1 .1 .1 .1 .1 .1 .1 .0 ∙ i .3 in
-    let flags = k .1 .1 .1 .1 .1 .1 .1 .1 .1 .1 .1 .1 .0 ∙ i .4 in
-    (omega (arith, t .scan .ensures .0), streets, nexts, sites, flags, t .scan .ensures .1)
+    let scan = looked c .scan in
+    let i = turn (looked c .before) .loop .inv in
+    let k = scan .kept .1 .1 .1 .1 .1 .1 .1 .1 .1 in
+    (omega (arith, scan .ensures .0), k .0 ∙ i .1, k .1 .0 ∙ i .2, k .1 .1 .0 ∙ i .3, k .1 .1 .1 .0 ∙ i .4, scan .ensures .1)
 
 same-length : tie.Need-same-length Inv-loop μ-loop
 same-length c = c .before .loop .inv .1
@@ -73,10 +78,10 @@ same-length-2 : tie.Need-same-length-2 Inv-loop μ-loop
 same-length-2 c = c .before .loop .inv .2
 
 same-length-3 : tie.Need-same-length-3 Inv-loop μ-loop
-same-length-3 c = c .before .loop .inv .3 ∙ c .before .before .before .before .before .before .start .kept .1 .1 .0
+same-length-3 c = c .before .loop .inv .3 ∙ begun (c .before) .start .kept .1 .1 .0
 
 same-length-4 : tie.Need-same-length-4 Inv-loop μ-loop
-same-length-4 c = c .before .loop .inv .4 ∙ c .before .before .before .before .before .before .start .kept .1 .1 .1 .0
+same-length-4 c = c .before .loop .inv .4 ∙ begun (c .before) .start .kept .1 .1 .1 .0
 
 returns : tie.Need-returns Inv-loop μ-loop
 returns c =

@@ -6,7 +6,7 @@ use native.Mathlib.Omega.{arith}
 use lib.ListN.{length}
 use Rattle.counting.specs.Lists.{at, cell}
 use Rattle.queues.specs.Tights.{Row}
-use Rattle.queues.proofs.Listing.{row-start, row-end}
+use Rattle.queues.proofs.TightRows.{row-start, row-end}
 use Rattle.queues.proofs.tights.fill_row.Statement.{statement}
 use Rattle.queues.proofs.tights.fill_row.Tie as tie
 use Rattle.division.specs.Prices.{Agree}

@@ -6,7 +6,7 @@ use native.Mathlib.Omega.{arith}
 use lib.ListN.{length}
 use Rattle.counting.specs.Lists.{at, cell}
 use Rattle.queues.specs.Tights.{Listed}
-use Rattle.queues.proofs.Listing.{rows-same}
+use Rattle.queues.proofs.TightRows.{rows-same}
 use Rattle.queues.proofs.tights.list_sites.Statement.{statement}
 use Rattle.queues.proofs.tights.list_sites.Tie as tie
 

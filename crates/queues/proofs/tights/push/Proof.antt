@@ -3,7 +3,7 @@ use borrow.Author.Needs.{needs}
 use mathlib.Core.Path.{refl}
 use native.Mathlib.Omega.{arith}
 use borrow.Author.Tests.{not-true}
-use Rattle.queues.proofs.Listing.{row-keep, row-more, agree-set}
+use Rattle.queues.proofs.TightRows.{row-keep, row-more, agree-set}
 use Rattle.queues.proofs.tights.push.Statement.{statement}
 use Rattle.queues.proofs.tights.push.Tie as tie
 
