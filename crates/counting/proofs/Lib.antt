@@ -8,3 +8,5 @@ pub mod Parts
 pub mod Tables
 pub mod Listed
 pub mod Choices
+pub mod Equations
+pub mod Laying

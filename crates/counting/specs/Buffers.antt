@@ -19,6 +19,13 @@ listOf n f = joined n (λ i. f i ∷ [])
 unfoldable pub laid : List ℕ → ℕ → List ℕ → List ℕ
 laid buffer i new = take i buffer ++ new ++ drop (i + length new) buffer
 
+-- bytes are laid over a buffer from the index i on, all of them fit, and `next` is the index behind them: what every function gives that
+-- writes a part of a text or of a file
+pub record Written (before : List ℕ) (i : ℕ) (bytes after : List ℕ) (next : ℕ) : Type 0 where
+  pub room : i + length bytes ≤ length before
+  pub right : after ≡ laid before i bytes
+  pub behind : next ≡ i + length bytes
+
 -- what a lent buffer holds after a call: the new bytes where its refusal number is 0, else what it held
 abbrev pub after : ℕ → List ℕ → List ℕ → List ℕ
 after zero new old = new

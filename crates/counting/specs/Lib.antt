@@ -1,3 +1,4 @@
+pub mod Bounds
 pub mod Words
 pub mod Lists
 pub mod Greatest

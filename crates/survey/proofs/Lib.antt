@@ -2,6 +2,5 @@ pub mod RowLoops
 pub mod Sound
 pub mod Places
 pub mod Lists
-pub mod BySite
 pub mod Ones
 pub mod Bits

@@ -18,7 +18,7 @@ use Rattle.counting.proofs.Refusals.{when-zero, when-some, unless-yes, first-fi
 use Rattle.counting.proofs.Membership.{cond-at, apart}
 use Rattle.counting.proofs.Sums.{has-at, has-index}
 use Rattle.survey.specs.Town.{Town}
-use Rattle.survey.specs.Rows.{rankedPart, listOfStreet, placeAt, placeIn, scoreAt, shortestOf, shortest}
+use Rattle.survey.specs.Rows.{rowAt, rankedPart, listOfStreet, placeAt, placeIn, scoreAt, shortestOf, shortest}
 use Rattle.survey.specs.Accepted.{SoundRow, SoundScores}
 use Rattle.survey.proofs.Places.{place-at, place-some, scores-fall, ranked-sites}
 use Rattle.counting.proofs.Listed.{has-take}
@@ -94,10 +94,10 @@ module _ (m : ℕ) (row : List ℕ) (sound : SoundRow m row) where
           ap (λ (x : ℕ). has x (take i L)) (ranked-at i l) ∙ ap (has (at row i)) before ∙ sound .once i (omega (arith, ranked-length row)) some
 
 -- no street's list is shorter than the shortest
-shortest-of : (t : Town) (n s : ℕ) → s < n → shortestOf n t ≤ length (listOfStreet t s)
-shortest-of t zero s l = absurd (omega arith)
-shortest-of t (suc n) s l =
-    ⊎-elim (λ e. rw e (omega arith)) (λ k. omega (arith, shortest-of t n s k)) (eq-or-lt-of-le (le-of-suc-le-suc l))
+shortest-of : (m : ℕ) (rows : List ℕ) (n s : ℕ) → s < n → shortestOf n m rows ≤ length (rankedPart (rowAt m rows s))
+shortest-of m rows zero s l = absurd (omega arith)
+shortest-of m rows (suc n) s l =
+    ⊎-elim (λ e. rw e (omega arith)) (λ k. omega (arith, shortest-of m rows n s k)) (eq-or-lt-of-le (le-of-suc-le-suc l))
 
 pub shortest-least : (t : Town) (s : ℕ) → s < t .n → shortest t ≤ length (listOfStreet t s)
-shortest-least t s l = shortest-of t (t .n) s l
+shortest-least t s l = shortest-of (t .m) (t .rows) (t .n) s l

@@ -12,6 +12,7 @@ use lib.Dec.{eqb}
 use lib.ListN.{length, length-append, List·getD-append}
 use lib.Seq.{getD-at}
 use borrow.Author.Tests.{eq-eqb, ne-eqb, eqb-true, eqb-false}
+use Rattle.counting.specs.Bounds.{topScore}
 use Rattle.counting.specs.Words.{_when_, _unless_, _orElse_, firstOf}
 use Rattle.counting.specs.Lists.{at, has}
 use Rattle.counting.proofs.Refusals.{or-pass, or-none, or-neither, when-yes, when-none, when-zero, when-some, unless-yes, unless-none, first-none, first-found, first-find, first-same, first-zeros}
@@ -19,7 +20,6 @@ use Rattle.counting.proofs.Membership.{cond-at, has-none}
 use Rattle.counting.proofs.Sums.{has-at, at-past}
 use Rattle.survey.specs.Town.{Town}
 use Rattle.survey.specs.Rows.{rankedPart, placeAt, placeIn, scoreAt, rowOf, listOfStreet, streetPlace, value}
-use Rattle.survey.specs.Refusals.{topScore}
 use Rattle.survey.specs.Accepted.{SoundScores, Accepted}
 
 -- a site that does not stand in a list has no place there

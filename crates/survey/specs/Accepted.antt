@@ -5,10 +5,10 @@ use mathlib.Core.Path.{_≡_}
 use mathlib.Core.Bool.{false}
 use mathlib.Core.List.{List}
 use lib.ListN.{length, take}
+use Rattle.counting.specs.Bounds.{mostStreets, mostSites, topScore}
 use Rattle.counting.specs.Lists.{at, has}
 use Rattle.survey.specs.Town.{Town}
 use Rattle.survey.specs.Rows.{rowOf}
-use Rattle.survey.specs.Refusals.{mostStreets, mostSites, topScore}
 
 -- of a row: no site above m, none after a zero, none twice
 pub record SoundRow (m : ℕ) (row : List ℕ) : Type 0 where

@@ -2,5 +2,4 @@ pub mod Town
 pub mod Rows
 pub mod Refusals
 pub mod Accepted
-pub mod BySite
 pub mod Bits

@@ -5,28 +5,11 @@ use mathlib.Core.Bool.{Bool, _&&_}
 use mathlib.Core.List.{List}
 use lib.Dec.{ltb, eqb}
 use lib.ListN.{length, take}
+use Rattle.counting.specs.Bounds.{mostStreets, mostSites, topScore}
 use Rattle.counting.specs.Words.{_when_, _unless_, _orElse_, firstOf, outside}
 use Rattle.counting.specs.Lists.{at, has}
 use Rattle.survey.specs.Town.{Town}
 use Rattle.survey.specs.Rows.{rowAt}
-
--- the bounds of a survey: streets, sites, and the greatest score
-abbrev pub mostStreets : ℕ
-mostStreets = 400
-
-abbrev pub mostSites : ℕ
-mostSites = 64
-
-abbrev pub topScore : ℕ
-topScore = 1000
-
--- the longest rows: mostStreets times mostSites bytes
-abbrev pub mostRows : ℕ
-mostRows = 25600
-
--- the longest table with an entry for each street and each of the sites 0, 1, .., m: mostStreets times (mostSites + 1)
-abbrev pub mostEntries : ℕ
-mostEntries = 26000
 
 -- 1: the number of streets
 abbrev pub streetsRefusal : ℕ → ℕ

@@ -38,6 +38,11 @@ placeOf row site = placeIn (rankedPart row) site
 abbrev pub scoreOf : List ℕ → List ℕ → ℕ → ℕ
 scoreOf scores row site = scoreAt scores (placeOf row site)
 
+-- the length of the shortest of the first n lists; no list is longer than m
+abbrev pub shortestOf : ℕ → ℕ → List ℕ → ℕ
+shortestOf zero m rows = m
+shortestOf (suc n) m rows = min (shortestOf n m rows) (length (rankedPart (rowAt m rows n)))
+
 -- ---- of a town
 -- the row of a street
 abbrev pub rowOf : Town → ℕ → List ℕ
@@ -55,11 +60,6 @@ streetPlace t street site = placeOf (rowOf t street) site
 abbrev pub value : Town → ℕ → ℕ → ℕ
 value t street site = scoreOf (t .scores) (rowOf t street) site
 
--- the length of the shortest of the first n lists; no list is longer than m
-abbrev pub shortestOf : ℕ → Town → ℕ
-shortestOf zero t = t .m
-shortestOf (suc n) t = min (shortestOf n t) (length (listOfStreet t n))
-
 -- the length of the shortest list
 abbrev pub shortest : Town → ℕ
-shortest t = shortestOf (t .n) t
+shortest t = shortestOf (t .n) (t .m) (t .rows)

@@ -4,9 +4,10 @@ use crate::quick;
 ghost use mathlib.Core.Path.{_≡_};
 ghost use Prim.Native.Nat.{_+_, _*_, _≤_, _<_};
 ghost use lib.ListN.{length};
+ghost use Rattle.counting.specs.Bounds.{mostSites};
 ghost use Rattle.survey.specs.Bits.{SiteBits};
 ghost use Rattle.survey.specs.Town.{town};
-ghost use Rattle.survey.specs.Refusals.{mostSites, scoreRefusal, scoresRefusal, siteRefusal, rowRefusal, streetRefusal, rowsRefusal, surveyRefusal};
+ghost use Rattle.survey.specs.Refusals.{scoreRefusal, scoresRefusal, siteRefusal, rowRefusal, streetRefusal, rowsRefusal, surveyRefusal};
 
 // 8: one score.
 fn score_refusal(scores: &[u16], i: usize) -> u8

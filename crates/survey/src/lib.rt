@@ -1,7 +1,7 @@
+ghost use Rattle.counting.specs.Bounds.{mostStreets, mostSites, topScore, mostRows};
 // The survey: its bounds, its rows and scores, and what is turned down in it.
 ghost use mathlib.Core.Path.{_≡_};
 ghost use lib.ListN.{replicate};
-ghost use Rattle.survey.specs.Refusals.{mostStreets, mostSites, topScore, mostRows};
 
 pub mod check;
 mod quick;
@@ -20,9 +20,9 @@ pub struct Survey {
 
 impl Survey {
     // the greatest numbers of streets and of sites, and the greatest score
-    pub const STREETS: usize = 400;
+    pub const STREETS: usize = counting::STREETS;
 
-    pub const SITES: usize = 64;
+    pub const SITES: usize = counting::SITES;
 
     pub const TOP_SCORE: u16 = 1000;
     // the bytes of the longest rows

@@ -4,9 +4,10 @@ ghost use mathlib.Core.Path.{_≡_};
 ghost use Prim.Native.Nat.{ℕ, _≤_, _<_};
 ghost use lib.Dec.{ltb};
 ghost use lib.ListN.{length};
+ghost use Rattle.counting.specs.Bounds.{mostSites};
 ghost use Rattle.counting.specs.Words.{one};
 ghost use Rattle.survey.specs.Bits.{SiteBits, bitsOf, rankedCount};
-ghost use Rattle.survey.specs.Refusals.{mostSites, rowRefusal};
+ghost use Rattle.survey.specs.Refusals.{rowRefusal};
 
 // The table of the bits of m sites.
 pub fn site_bits(m: usize) -> [u64; 256]
