@@ -8,28 +8,30 @@ use native.Mathlib.Omega.{arith}
 use lib.ListN.{length, drop, length-take}
 use Rattle.counting.specs.Lists.{at}
 use Rattle.counting.proofs.Sums.{has-at}
-use Rattle.survey.specs.Rows.{rowOf, rankedPart, placeOf, scoreAt, value}
+use Rattle.survey.specs.Town.{Town}
+use Rattle.survey.specs.Rows.{rowOf, rankedPart, placeOf, scoreAt, value, streetPlace}
 use Rattle.survey.specs.Accepted.{Accepted}
 use Rattle.survey.proofs.Lists.{place-most, score-later, ranked-length}
 use Rattle.survey.proofs.Places.{score-none}
+use Rattle.plans.specs.Plans.{streetKey}
 use Rattle.balanced_plan.specs.Rounds.{ordered}
 use Rattle.balanced_plan.proofs.Keys.{place-falls}
 use Rattle.balanced_plan.proofs.Ordered.{ordered-street, ordered-rising, rising-at}
 use Rattle.balanced_rounds.specs.Lines.{Orders, Falls, Falling}
 use Rattle.balanced_results.specs.Plans.{rowKey, FallsByPlace}
 
-module _ (n m : ℕ) (scores rows : List ℕ) (ok : Accepted n m scores rows) where
+module _ {t : Town} (ok : Accepted t) where
   -- the key puts first a street that scores no less
-  pub key-falls : (a s t : ℕ) → s < n → t < n → rowKey m rows a s ≤ rowKey m rows a t → value m scores rows t a ≤ value m scores rows s a
-  key-falls a s t l h =
-      let row : List ℕ = rowOf m rows t in
-      let high : placeOf row a ≤ m = omega (arith, place-most (rankedPart row) a, ranked-length row, length-take m (drop (t * m) rows)) in
-      place-falls (λ u b. placeOf (rowOf m rows u) b) (scoreAt scores) m (score-later scores (ok .sound-scores)) (score-none scores) a s t high
+  pub key-falls : (a s u : ℕ) → s < t .n → u < t .n → streetKey t a s ≤ streetKey t a u → value t u a ≤ value t s a
+  key-falls a s u l h =
+      let row : List ℕ = rowOf t u in
+      let high : placeOf row a ≤ t .m = omega (arith, place-most (rankedPart row) a, ranked-length row, length-take (t .m) (drop (u * t .m) (t .rows))) in
+      place-falls (streetPlace t) (scoreAt (t .scores)) (t .m) (score-later (t .scores) (ok .sound-scores)) (score-none (t .scores)) a s u high
 
   -- and so do the values of its table, for a buffer of n streets
-  pub table-falls : (v : ℕ → ℕ → ℕ) (j : ℕ) → j ≡ n → ((s a : ℕ) → s < n → a ≤ m → v s a ≡ value m scores rows s a) → FallsByPlace v j m rows
-  table-falls v j e same a s t l h k first =
-      omega (arith, same s a (omega arith) l, same t a (omega arith) l, key-falls a s t (omega arith) (omega arith) first)
+  pub table-falls : (v : ℕ → ℕ → ℕ) (j : ℕ) → j ≡ t .n → ((s a : ℕ) → s < t .n → a ≤ t .m → v s a ≡ value t s a) → FallsByPlace v j (t .m) (t .rows)
+  table-falls v j e same a s u l h k first =
+      omega (arith, same s a (omega arith) l, same u a (omega arith) l, key-falls a s u (omega arith) (omega arith) first)
 
 -- and along lines that are ordered by those keys they never rise
 pub lines-fall : (v key : ℕ → ℕ → ℕ) (n m : ℕ) (rows orders : List ℕ) → ((a s : ℕ) → a ≤ m → s < n → key a s ≡ rowKey m rows a s)

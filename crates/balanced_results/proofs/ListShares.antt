@@ -1,5 +1,5 @@
--- Laws between the survey and the best division: the shares that a list of sites makes, the town that the engine is lent, and what the
--- engine says of the table, said of the survey.
+-- Laws between a town and the best division: the shares that a list of sites makes, the problem that the engine is lent, and what the
+-- engine says of the table, said of the town.
 -- Assumes nothing.
 use mathlib.Core.Path.{_≡_, _∙_}
 use mathlib.Core.List.{List}
@@ -8,23 +8,26 @@ use native.Mathlib.Omega.{arith}
 use lib.ListN.{length}
 use Rattle.counting.specs.Lists.{at}
 use Rattle.counting.proofs.Sums.{has-at}
-use Rattle.values.specs.Table.{Table}
-use Rattle.division.specs.Shares.{InShares, divisionTotal, sharesOf, shareSum}
+use Rattle.tables.specs.Tables.{StreetTable}
+use Rattle.division.specs.Shares.{share, InShares, divisionTotal, sharesOf, shareSum}
 use Rattle.division.specs.Divide.{divide}
 use Rattle.division.specs.Problem.{Problem}
 use Rattle.division.proofs.Counts.{share-fits, has-share, divisionTotal-same}
 use Rattle.division.proofs.Best.{divide-in, divide-length, divide-same}
 use Rattle.division.proofs.Shared.{shares-length, shares-even}
+use Rattle.balanced_plan.specs.Rounds.{evenShare}
 use Rattle.starts.specs.Given.{Unshared}
 use Rattle.balanced_results.specs.Shareable.{Shareable}
+use Rattle.balanced_results.specs.Plans.{dividedBy}
 
 -- blank shares can be given out
-pub unshared : (n m : ℕ) (list shares : List ℕ) → Shareable n m list → length shares ≡ m + 1 → ((a : ℕ) → at shares a ≡ 0) → Unshared list m shares
-unshared n m list shares ok size none = record { size = size; none = none; listed = λ i l. ok .sites (at list i) (has-at list i l) }
+pub unshared : {n m : ℕ} {list : List ℕ} (shares : List ℕ) → Shareable n m list → length shares ≡ m + 1 → ((a : ℕ) → at shares a ≡ 0) → Unshared list m shares
+unshared {list = list} shares ok size none = record { size = size; none = none; listed = λ i l. ok .sites (at list i) (has-at list i l) }
 
--- the values and the shares make a town
-pub town : (n m k : ℕ) (values shares : List ℕ) → n ≡ k → Table n m values → length shares ≡ m + 1 → at shares 0 ≡ 0 → Problem values shares k
-town n m k values shares e table size nobody = rw (← e) (record {
+-- the values and the shares make a problem
+pub problem : {n m : ℕ} {values : List ℕ} (k : ℕ) (shares : List ℕ) → n ≡ k → StreetTable n m values → length shares ≡ m + 1
+    → at shares 0 ≡ 0 → Problem values shares k
+problem k shares e table size nobody = rw (← e) (record {
   size = rw size (table .size);
   small = table .small;
   nobody = nobody;
@@ -33,27 +36,31 @@ town n m k values shares e table size nobody = rw (← e) (record {
   few = table .few-streets;
 })
 
-module _ (n m : ℕ) (list : List ℕ) (ok : Shareable n m list) where
-  -- the shares are for all streets
-  pub for-all : shareSum (sharesOf (λ i. n / length list) list m) ≡ n
+module _ {n m : ℕ} {list : List ℕ} (ok : Shareable n m list) where
+  -- the shares
+  abbrev c : List ℕ
+  c = sharesOf (evenShare n (length list)) list m
+
+  -- they are for all streets
+  pub for-all : shareSum c ≡ n
   for-all = shares-even (n / length list) list m (ok .sites) (ok .apart) ∙ ok .even
 
-  -- the division goes by the values of the sites 1 to m
-  pub as-valued : (v w : ℕ → ℕ → ℕ) → ((s a : ℕ) → s < n → a ≤ m → v s a ≡ w s a)
-      → divide v n (sharesOf (λ i. n / length list) list m) ≡ divide w n (sharesOf (λ i. n / length list) list m)
-  as-valued v w same =
-      let c : List ℕ = sharesOf (λ i. n / length list) list m in
-      divide-same v w n c for-all (λ s a l h. same s a l (omega (arith, share-fits c a h, shares-length (λ i. n / length list) list m)))
+  -- only the sites 1 to m have one
+  low : (a : ℕ) → 0 < share c a → a ≤ m
+  low a h = omega (arith, share-fits c a h, shares-length (evenShare n (length list)) list m)
 
-  -- and so does its total
-  pub total-valued : (v w : ℕ → ℕ → ℕ) → ((s a : ℕ) → s < n → a ≤ m → v s a ≡ w s a)
-      → divisionTotal v (divide v n (sharesOf (λ i. n / length list) list m)) ≡ divisionTotal w (divide w n (sharesOf (λ i. n / length list) list m))
-  total-valued v w same =
-      let c : List ℕ = sharesOf (λ i. n / length list) list m in
-      let D : List ℕ = divide w n c in
-      let i : InShares D c = divide-in w n c for-all in
-      let low : (s : ℕ) → s < length D → at D s ≤ m = λ s l. omega (arith, share-fits c (at D s) (has-share D c i s l), shares-length (λ i. n / length list) list m) in
-      rw (as-valued v w same) (divisionTotal-same v w D (λ s l. same s (at D s) (omega (arith, divide-length w n c)) (low s l)))
+  module _ (v w : ℕ → ℕ → ℕ) (same : (s a : ℕ) → s < n → a ≤ m → v s a ≡ w s a) where
+    -- the division goes by their values
+    pub as-valued : dividedBy v n m list ≡ dividedBy w n m list
+    as-valued = divide-same v w n c for-all (λ s a l h. same s a l (low a h))
+
+    -- and so does its total
+    pub total-valued : divisionTotal v (dividedBy v n m list) ≡ divisionTotal w (dividedBy w n m list)
+    total-valued =
+        let D : List ℕ = dividedBy w n m list in
+        let i : InShares D c = divide-in w n c for-all in
+        rw as-valued
+        (divisionTotal-same v w D (λ s l. same s (at D s) (omega (arith, divide-length w n c)) (low (at D s) (has-share D c i s l))))
 
 -- what the engine gave for the shares as they were lent
 pub given : (v : ℕ → ℕ → ℕ → ℕ) (x w j n : ℕ) (b c F : List ℕ) (t : ℕ) → x ≡ w → j ≡ n → b ≡ c
@@ -61,14 +68,8 @@ pub given : (v : ℕ → ℕ → ℕ → ℕ) (x w j n : ℕ) (b c F : List ℕ)
     → (t ≡ divisionTotal (v w) (divide (v w) n c)) × (F ≡ divide (v w) n c)
 given v x w j n b c F t e f g total division = (rw (e, f, g) at total, rw (e, f, g) at division)
 
--- a buffer of n sites is for n streets
-pub shareable-of : (n m k : ℕ) (list : List ℕ) → k ≡ n → Shareable n m list → Shareable k m list
-shareable-of n m k list e h = rw e h
-
--- what it holds in the end is what the survey says
-pub as-surveyed : (n m k : ℕ) (list : List ℕ) → Shareable n m list → k ≡ n → (v w : ℕ → ℕ → ℕ)
-    → ((s a : ℕ) → s < n → a ≤ m → v s a ≡ w s a) → (F : List ℕ) (t : ℕ)
-    → t ≡ divisionTotal v (divide v k (sharesOf (λ i. k / length list) list m)) → F ≡ divide v k (sharesOf (λ i. k / length list) list m)
-    → (t ≡ divisionTotal w (divide w n (sharesOf (λ i. n / length list) list m))) × (F ≡ divide w n (sharesOf (λ i. n / length list) list m))
-as-surveyed n m k list ok e v w same F t total division =
-    ((rw e at total) ∙ total-valued n m list ok v w same, (rw e at division) ∙ as-valued n m list ok v w same)
+-- what a division of the table's values is, said of the town's
+pub as-surveyed : {n m : ℕ} {list : List ℕ} → Shareable n m list → (k : ℕ) → k ≡ n → (v w : ℕ → ℕ → ℕ)
+    → ((s a : ℕ) → s < n → a ≤ m → v s a ≡ w s a) → (F : List ℕ) (t : ℕ) → t ≡ divisionTotal v (dividedBy v k m list) → F ≡ dividedBy v k m list
+    → (t ≡ divisionTotal w (dividedBy w n m list)) × (F ≡ dividedBy w n m list)
+as-surveyed ok k e v w same F t total division = ((rw e at total) ∙ total-valued ok v w same, (rw e at division) ∙ as-valued ok v w same)

@@ -2,7 +2,7 @@
 -- Assumes nothing.
 use mathlib.Core.Path.{_≡_, refl, sym, ap, _∙_}
 use mathlib.Core.Bool.{true}
-use mathlib.Core.List.{List}
+use mathlib.Core.List.{List, _++_}
 use mathlib.Core.Logic.{by-cases}
 use Prim.Native.Nat.{ℕ, _+_, _*_, _/_, _%_, _≤_, _<_}
 use native.Mathlib.Nat.{div-add-mod', mod-lt, div-lt-iff-lt-mul, mul-zero}
@@ -13,34 +13,34 @@ use lib.Seq.{getD-take, getD-drop, length-take-le}
 use Rattle.counting.specs.Lists.{at, cell}
 use Rattle.counting.specs.Sites.{Choice}
 use Rattle.counting.proofs.Sums.{has-at}
+use Rattle.counting.proofs.Equations.{along}
+use Rattle.counting.proofs.Parts.{back-is, back-room, back-size}
 use Rattle.counting.proofs.Tables.{row-within}
-use Rattle.survey.specs.Rows.{rowOf, placeOf}
-use Rattle.survey.specs.BySite.{Ranked}
+use Rattle.survey.specs.Rows.{rowAt}
 use Rattle.division.specs.Shares.{InShares, divisionTotal, sharesOf}
-use Rattle.division.specs.Divide.{divide}
-use Rattle.balanced_plan.specs.Rounds.{ordered, rounds, placeKey, evenShare}
+use Rattle.balanced_plan.specs.Rounds.{ordered, rounds, evenShare}
 use Rattle.balanced_plan.specs.Rounds as plan
 use Rattle.balanced_plan.proofs.Ordered.{ordered-street}
 use Rattle.balanced_plan.proofs.RoundShares.{rounds-plan, rounds-in}
 use Rattle.balanced_plan.proofs.FloorShares.{even-sum}
 use Rattle.balanced_plan.proofs.Agree.{rounds-agree}
 use Rattle.balanced_rounds.specs.declared.State.{State}
-use Rattle.balanced_rounds.specs.Lines.{Lines, stateOf}
+use Rattle.balanced_rounds.specs.Lines.{Orders, Lines, stateOf}
 use Rattle.balanced_results.specs.Shareable.{Shareable}
-use Rattle.balanced_results.specs.Plans.{planSites, planDivision}
-use Rattle.balanced_results.proofs.ListShares.{as-valued, total-valued}
+use Rattle.balanced_results.specs.Plans.{dividedBy, rowKey, roundsBy}
+use Rattle.balanced_results.proofs.ListShares.{as-surveyed}
 
 -- ---- lines
 module _ (n m : ℕ) (list : List ℕ) (size : length list ≡ (m + 1) * n) where
   -- what stands in a row of a table by sites
-  row-cell : (a s : ℕ) → s < n → at (rowOf n list a) s ≡ cell list n a s
+  row-cell : (a s : ℕ) → s < n → at (rowAt n list a) s ≡ cell list n a s
   row-cell a s l = getD-take n (drop (a * n) list) s 0 l ∙ getD-drop (a * n) list s 0
 
-  row-long : (a : ℕ) → a ≤ m → length (rowOf n list a) ≡ n
+  row-long : (a : ℕ) → a ≤ m → length (rowAt n list a) ≡ n
   row-long a l = length-take-le n (drop (a * n) list) (omega (arith, length-drop (a * n) list, row-within (m + 1) n a (omega arith)))
 
   -- orders of all streets for each site are lines of streets
-  pub lines-ordered : (key : ℕ → ℕ → ℕ) → ((a : ℕ) → a ≤ m → rowOf n list a ≡ ordered (key a) (λ s. true) n) → Lines n m list
+  lines-ordered : (key : ℕ → ℕ → ℕ) → ((a : ℕ) → a ≤ m → rowAt n list a ≡ ordered (key a) (λ s. true) n) → Lines n m list
   lines-ordered key o = record { size = size; streets = λ i l. street i (omega arith) }
     where
       street : (i : ℕ) → i < (m + 1) * n → at list i < n
@@ -62,34 +62,69 @@ module _ (n m : ℕ) (list : List ℕ) (size : length list ≡ (m + 1) * n) wher
               omega (arith, here, ordered-street (key a) (λ s. true) n (at line s) (has-at line s (omega arith)) .0)
 
   -- keys that are right in the table are right in its rows
-  pub keys-right : (key : ℕ → ℕ → ℕ) → ((a s : ℕ) → a ≤ m → s < n → cell list n a s ≡ key a s) → (a s : ℕ) → a ≤ m → s < n → at (rowOf n list a) s ≡ key a s
+  keys-right : (key : ℕ → ℕ → ℕ) → ((a s : ℕ) → a ≤ m → s < n → cell list n a s ≡ key a s) → (a s : ℕ) → a ≤ m → s < n → at (rowAt n list a) s ≡ key a s
   keys-right key h a s l u = row-cell a s u ∙ h a s l u
 
+-- ---- tables by site that are lent as a part of an array
+-- a table with a row of n entries for each of the sites 0, 1, .., m
+pub record Sized (n m : ℕ) (list : List ℕ) : Type 0 where
+  pub size : length list ≡ (m + 1) * n
+
+module _ {n m : ℕ} {list : List ℕ} (rest : List ℕ) (sized : Sized n m list) where
+  -- the part
+  abbrev lent : List ℕ
+  lent = take ((m + 1) * n) (list ++ rest)
+
+  pub lent-room : (m + 1) * n ≤ length (list ++ rest)
+  lent-room = back-room ((m + 1) * n) list rest (sized .size)
+
+  pub lent-size : length lent ≡ (m + 1) * n
+  lent-size = back-size ((m + 1) * n) list rest (sized .size)
+
+  -- orders in it are lines of streets
+  pub lent-orders : (key : ℕ → ℕ → ℕ) → Orders key n m list → Lines n m lent × Orders key n m lent
+  lent-orders key o =
+      let o′ = along (λ (L : List ℕ). Orders key n m L) (back-is ((m + 1) * n) list rest (sized .size)) o in
+      (lines-ordered n m lent lent-size key o′, o′)
+
+  -- keys in it stand in its rows
+  pub lent-keys : (key : ℕ → ℕ → ℕ) → ((a s : ℕ) → a ≤ m → s < n → cell list n a s ≡ key a s)
+      → (a s : ℕ) → a ≤ m → s < n → at (rowAt n lent a) s ≡ key a s
+  lent-keys key h =
+      keys-right n m lent lent-size key
+      (along (λ (L : List ℕ). (a s : ℕ) → a ≤ m → s < n → cell L n a s ≡ key a s) (back-is ((m + 1) * n) list rest (sized .size)) h)
+
 -- ---- the rounds' sites and division
-module _ (v key : ℕ → ℕ → ℕ) (n m k : ℕ) (few : k ≤ m) (even : k * (n / k) ≡ n) (sites : List ℕ)
-    (e : sites ≡ rounds v key n m (evenShare n k) k .chosen) where
-  -- the sites are k different ones of 1 to m
-  pub sites-plan : Choice m k sites
-  sites-plan = rw e (rounds-plan v key n m (evenShare n k) k few)
+module _ (v key : ℕ → ℕ → ℕ) (n m k : ℕ) (few : k ≤ m) (even : k * (n / k) ≡ n) where
+  -- the sites after the rounds
+  abbrev end : plan.State
+  end = rounds v key n m (evenShare n k) k
+
+  -- they are k different ones of 1 to m
+  pub sites-plan : Choice m k (end .chosen)
+  sites-plan = rounds-plan v key n m (evenShare n k) k few
 
   -- over which the streets can be shared
-  pub sites-shareable : 0 < k → Shareable n m sites
+  pub sites-shareable : 0 < k → Shareable n m (end .chosen)
   sites-shareable some =
       let p = sites-plan in
       record { some = omega (arith, p .size); sites = p .sites; apart = p .apart; even = rw (p .size) even }
 
   -- and the rounds share them so
-  pub division-shared : (division : List ℕ) → division ≡ rounds v key n m (evenShare n k) k .division
-      → InShares division (sharesOf (λ i. n / length sites) sites m)
-  division-shared division d =
-      rw (sites-plan .size, d, e) (rounds-in v key n m (evenShare n k) k few (even-sum n m k even))
+  pub division-shared : InShares (end .division) (sharesOf (evenShare n (length (end .chosen))) (end .chosen) m)
+  division-shared = rw (sites-plan .size) (rounds-in v key n m (evenShare n k) k few (even-sum n m k even))
 
--- the same for the length of the division
-pub rounds-ready : (v key : ℕ → ℕ → ℕ) (n m k : ℕ) → 0 < k → k ≤ m → k * (n / k) ≡ n → (sites division : List ℕ) → length division ≡ n
-    → sites ≡ rounds v key n m (evenShare n k) k .chosen → division ≡ rounds v key n m (evenShare n k) k .division
-    → Shareable (length division) m sites × InShares division (sharesOf (λ i. length division / length sites) sites m)
-rounds-ready v key n m k some few even sites division size e d =
-    (rw size (sites-shareable v key n m k few even sites e some), rw size (division-shared v key n m k few even sites e division d))
+  -- the same for lists that are these, and for the length of the division
+  pub rounds-ready : 0 < k → (sites division : List ℕ) → length division ≡ n → sites ≡ end .chosen → division ≡ end .division
+      → Shareable (length division) m sites × InShares division (sharesOf (evenShare (length division) (length sites)) sites m)
+  rounds-ready some sites division size e d =
+      let shareable = along (λ (S : List ℕ). Shareable n m S) e (sites-shareable some) in
+      let shared =
+      along (λ (D : List ℕ). InShares D (sharesOf (evenShare n (length sites)) sites m)) d
+      (along (λ (S : List ℕ). InShares (end .division) (sharesOf (evenShare n (length S)) S m)) e division-shared) in (
+        along (λ (j : ℕ). Shareable j m sites) size shareable,
+        along (λ (j : ℕ). InShares division (sharesOf (evenShare j (length sites)) sites m)) size shared,
+      )
 
 -- the engine's lists after the rounds are those of the definition
 pub state-sites : (n k : ℕ) (state : State) (end : plan.State) → state .count ≡ k → stateOf n state ≡ end → take k (state .chosen) ≡ end .chosen
@@ -98,54 +133,16 @@ state-sites n k state end e h = rw e at (ap (λ (x : plan.State). x .chosen) h)
 pub state-division : (n : ℕ) (state : State) (end : plan.State) → stateOf n state ≡ end → take n (state .division) ≡ end .division
 state-division n state end h = ap (λ (x : plan.State). x .division) h
 
--- what the engine gave for the lengths of its lists
-pub plan-given : (v : ℕ → ℕ → ℕ) (n m k j : ℕ) (rows sites F : List ℕ) (t : ℕ) → j ≡ n → sites ≡ planSites v n m k rows → length sites ≡ k
-    → t ≡ divisionTotal v (divide v j (sharesOf (λ i. j / length sites) sites m)) → F ≡ divide v j (sharesOf (λ i. j / length sites) sites m)
-    → (t ≡ divisionTotal v (planDivision v n m k rows)) × ((F ≡ planDivision v n m k rows) × (sites ≡ planSites v n m k rows))
-plan-given v n m k j rows sites F t f e size total division = (rw (f, size, e) at total, (rw (f, size, e) at division, e))
-
--- shares that are equal hold the same divisions
-pub shared-same : (D b c : List ℕ) → b ≡ c → InShares D c → InShares D b
-shared-same D b c e h = rw e h
-
-pub lined-same : (n m : ℕ) (key : ℕ → ℕ → ℕ) (list new : List ℕ) → list ≡ new
-    → ((a : ℕ) → a ≤ m → rowOf n new a ≡ ordered (key a) (λ s. true) n) → (a : ℕ) → a ≤ m → rowOf n list a ≡ ordered (key a) (λ s. true) n
-lined-same n m key list new e h = rw e h
-
-pub keyed-same : (n m : ℕ) (key : ℕ → ℕ → ℕ) (list new : List ℕ) → list ≡ new
-    → ((a s : ℕ) → a ≤ m → s < n → cell new n a s ≡ key a s) → (a s : ℕ) → a ≤ m → s < n → cell list n a s ≡ key a s
-keyed-same n m key list new e h = rw e h
-
--- a buffer of n sites is for n streets
-pub ranked-of : (n m j : ℕ) (rows : List ℕ) → j ≡ n → Ranked n m rows → Ranked j m rows
-ranked-of n m j rows e h = rw e h
-
-pub even-of : (n k j : ℕ) → j ≡ n → k * (n / k) ≡ n → k * (j / k) ≡ j
-even-of n k j e h = rw e h
-
--- the plan goes by the values of the streets below n and the sites 1 to m
+-- what a plan by the table's values is, said of the town's: it goes by the values of the streets below n and the sites 1 to m
 module _ (v w : ℕ → ℕ → ℕ) (n m k : ℕ) (rows : List ℕ) (some : 0 < k) (few : k ≤ m) (even : k * (n / k) ≡ n)
     (same : (s a : ℕ) → s < n → a ≤ m → v s a ≡ w s a) where
-  pub sites-same : planSites v n m k rows ≡ planSites w n m k rows
-  sites-same =
-      let key : ℕ → ℕ → ℕ = placeKey (λ s a. placeOf (rowOf m rows s) a) m in
-      ap (λ (state : plan.State). state .chosen) (rounds-agree v w key key n m (evenShare n k) same (λ a s l u. refl) k)
+  sites-same : roundsBy v n m k rows .chosen ≡ roundsBy w n m k rows .chosen
+  sites-same = ap (λ (state : plan.State). state .chosen) (rounds-agree v w (rowKey m rows) (rowKey m rows) n m (evenShare n k) same (λ a s l u. refl) k)
 
-  shareable : Shareable n m (planSites w n m k rows)
-  shareable = sites-shareable w _ n m k few even (planSites w n m k rows) refl some
-
-  size : length (planSites w n m k rows) ≡ k
-  size = sites-plan w _ n m k few even (planSites w n m k rows) refl .size
-
-  pub division-same : planDivision v n m k rows ≡ planDivision w n m k rows
-  division-same = rw sites-same (rw size at (as-valued n m (planSites w n m k rows) shareable v w same))
-
-  pub total-same : divisionTotal v (planDivision v n m k rows) ≡ divisionTotal w (planDivision w n m k rows)
-  total-same = rw sites-same (rw size at (total-valued n m (planSites w n m k rows) shareable v w same))
-
-  -- what the engine said of the table, said of the survey
-  pub plan-surveyed : (j : ℕ) → j ≡ n → (F S : List ℕ) (t : ℕ) → t ≡ divisionTotal v (planDivision v j m k rows) → F ≡ planDivision v j m k rows
-      → S ≡ planSites v j m k rows
-      → (t ≡ divisionTotal w (planDivision w n m k rows)) × ((F ≡ planDivision w n m k rows) × (S ≡ planSites w n m k rows))
+  pub plan-surveyed : (j : ℕ) → j ≡ n → (F S : List ℕ) (t : ℕ) → t ≡ divisionTotal v (dividedBy v j m S) → F ≡ dividedBy v j m S
+      → S ≡ roundsBy v j m k rows .chosen → let own = roundsBy w n m k rows .chosen in
+      (t ≡ divisionTotal w (dividedBy w n m own)) × ((F ≡ dividedBy w n m own) × (S ≡ own))
   plan-surveyed j e F S t total division sites =
-      ((rw e at total) ∙ total-same, ((rw e at division) ∙ division-same, (rw e at sites) ∙ sites-same))
+      let S′ : S ≡ roundsBy w n m k rows .chosen = (rw e at sites) ∙ sites-same in
+      let (x, y) = as-surveyed (sites-shareable w (rowKey m rows) n m k few even some) j e v w same F t (rw S′ at total) (rw S′ at division) in
+      (x, (y, S′))

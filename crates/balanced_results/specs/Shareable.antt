@@ -3,7 +3,7 @@
 use mathlib.Core.Path.{_≡_}
 use mathlib.Core.Bool.{true}
 use mathlib.Core.List.{List}
-use Prim.Native.Nat.{ℕ, _*_, _/_, _<_}
+use Prim.Native.Nat.{ℕ, _*_, _/_, _≤_, _<_}
 use lib.ListN.{length}
 use Rattle.counting.specs.Lists.{distinct}
 use Rattle.counting.specs.Sites.{Sites}
@@ -14,3 +14,7 @@ pub record Shareable (n m : ℕ) (list : List ℕ) : Type 0 where
   pub sites : Sites m list
   pub apart : distinct list ≡ true
   pub even : length list * (n / length list) ≡ n
+
+-- k sites of 1 to m, whose number divides n
+abbrev pub Divides : ℕ → ℕ → ℕ → Type 0
+Divides n m k = (0 < k) × (k ≤ m) × (k * (n / k) ≡ n)

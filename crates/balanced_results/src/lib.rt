@@ -3,15 +3,16 @@
 ghost use mathlib.Core.Path.{_≡_};
 ghost use Prim.Native.Nat.{ℕ, _+_, _/_};
 ghost use lib.ListN.{length};
-ghost use Rattle.counting.specs.Lists.{at, cell};
-ghost use Rattle.survey.specs.Rows.{value};
+ghost use Rattle.counting.specs.Lists.{at};
+ghost use Rattle.survey.specs.Town.{townOf, town, was, is};
 ghost use Rattle.survey.specs.Accepted.{Accepted};
-ghost use Rattle.values.specs.Table.{Table};
-ghost use Rattle.division.specs.Shares.{divisionTotal, sharesOf};
-ghost use Rattle.division.specs.Divide.{divide};
+ghost use Rattle.tables.specs.Tables.{StreetTable, valueIn};
+ghost use Rattle.division.specs.Shares.{divisionTotal};
+ghost use Rattle.plans.specs.Plans.{planTotal, balancedDivision};
 ghost use Rattle.balanced_results.specs.Shareable.{Shareable};
+ghost use Rattle.balanced_results.specs.Plans.{dividedBy};
 
-pub mod plans;
+pub mod planning;
 
 // The best division by a table of values, with buffers for the shares and for what is left of them.
 fn divide_table(
@@ -22,10 +23,10 @@ fn divide_table(
     shares: &mut [u16],
     left: &mut [u16],
 ) -> u32
-    requires { ⌜ Table (length (now division)) m (now values) × Shareable (length (now division)) m (now sites) ⌝ }
+    requires { ⌜ StreetTable (length (now division)) m (now values) × Shareable (length (now division)) m (now sites) ⌝ }
     requires { ⌜ (length (now shares) ≡ m + 1) × (length (now left) ≡ m + 1) × ((a : ℕ) → at (now shares) a ≡ 0) ⌝ }
-    ensures total { λ r. ⌜ r ≡ divisionTotal (cell (now (values .entry)) (m + 1)) (divide (cell (now (values .entry)) (m + 1)) (length (now (division .entry))) (sharesOf (λ i. length (now (division .entry)) / length (now (sites .entry))) (now (sites .entry)) m)) ⌝ }
-    ensures division { λ _. ⌜ now (division .exit) ≡ divide (cell (now (values .entry)) (m + 1)) (length (now (division .entry))) (sharesOf (λ i. length (now (division .entry)) / length (now (sites .entry))) (now (sites .entry)) m) ⌝ }
+    ensures total { λ r. ⌜ r ≡ divisionTotal (valueIn (was values) m) (dividedBy (valueIn (was values) m) (length (was division)) m (was sites)) ⌝ }
+    ensures division { λ _. ⌜ is division ≡ dividedBy (valueIn (was values) m) (length (was division)) m (was sites) ⌝ }
 {
     let q = division.len() / sites.len();
     starts::share_out(sites, q as u16, m, shares);
@@ -42,17 +43,17 @@ pub fn divide(
     sites: &[u8],
     division: &mut [u8],
 ) -> u32
-    requires { ⌜ Accepted n m (now scores) (now rows) × Shareable n m (now sites) ⌝ }
+    requires { ⌜ Accepted (townOf n m (now scores) (now rows)) × Shareable n m (now sites) ⌝ }
     requires { ⌜ length (now division) ≡ n ⌝ }
-    ensures total { λ r. ⌜ r ≡ divisionTotal (value m (now (scores .entry)) (now (rows .entry))) (divide (value m (now (scores .entry)) (now (rows .entry))) n (sharesOf (λ i. n / length (now (sites .entry))) (now (sites .entry)) m)) ⌝ }
-    ensures division { λ _. ⌜ now (division .exit) ≡ divide (value m (now (scores .entry)) (now (rows .entry))) n (sharesOf (λ i. n / length (now (sites .entry))) (now (sites .entry)) m) ⌝ }
+    ensures total { λ r. ⌜ r ≡ planTotal (town n m scores rows) (balancedDivision (town n m scores rows) (was sites)) ⌝ }
+    ensures division { λ _. ⌜ is division ≡ balancedDivision (town n m scores rows) (was sites) ⌝ }
 {
     let w = m + 1;
     let size = n * w;
-    let mut table = [0u32; 26000];
-    let mut shares = [0u16; 65];
-    let mut left = [0u16; 65];
-    values::fill_values(n, m, scores, rows, &mut table[..size]);
+    let mut table = [0u32; counting::ENTRIES];
+    let mut shares = [0u16; counting::WIDTH];
+    let mut left = [0u16; counting::WIDTH];
+    tables::by_street::fill_values(n, m, scores, rows, &mut table[..size]);
     divide_table(
         &table[..size],
         m,

@@ -12,13 +12,15 @@ use native.Mathlib.Omega.{arith}
 use lib.ListN.{length, drop, length-drop}
 use lib.Seq.{drop-cons, drop-length, getD-drop}
 use borrow.Author.Tests.{eq-eqb, ne-eqb}
+use Rattle.counting.specs.Bounds.{mostEntries, mostValue}
 use Rattle.counting.specs.Lists.{at, has, sum}
 use Rattle.counting.proofs.Listed.{only-has, has-take, sum-even}
 use Rattle.counting.proofs.Membership.{sum-le}
 use Rattle.counting.proofs.Sums.{has-index}
 use Rattle.counting.proofs.Tables.{in-rows}
-use Rattle.survey.proofs.BySite.{table-small}
-use Rattle.values.specs.Table.{Table}
+use Rattle.survey.specs.Rows.{value}
+use Rattle.tables.proofs.Filling.{table-small}
+use Rattle.tables.specs.Tables.{StreetTable}
 use Rattle.balanced_plan.specs.Rounds.{free, give}
 use Rattle.balanced_rounds.specs.Lines.{picked, Falls, Stepped}
 
@@ -67,105 +69,106 @@ stepped value site left total once x some free given counts none = record {
 
 -- a sum over the first q free streets of a line, of which the line from j on still has `left`
 pub record Adding (f : ℕ → ℕ) (line division : List ℕ) (q j left total : ℕ) : Type 0 where
-  pub room : total + left * 99000 ≤ q * 99000
+  pub room : total + left * mostValue ≤ q * mostValue
   pub rest : total + sum f (picked (drop j line) left division) ≡ sum f (picked line q division)
 
-module _ (f : ℕ → ℕ) (line division : List ℕ) (q : ℕ) where
+module _ {f : ℕ → ℕ} {line division : List ℕ} {q : ℕ} where
   -- nothing is added yet
   pub adding-none : Adding f line division q 0 q 0
   adding-none = record { room = omega arith; rest = omega arith }
 
-  -- one street more
-  pub adding-more : (j left total left′ total′ : ℕ) → j < length line → 0 < left → f (at line j) ≤ 99000 → Adding f line division q j left total
-      → Stepped (f (at line j)) (at division (at line j)) left total left′ total′ → Adding f line division q (j + 1) left′ total′
-  adding-more j left total left′ total′ l some small h step =
-      by-cases (ℕ-discrete (at division (at line j)) 0) (λ e. counted e (step .counted e)) (λ n. passed n (step .passed n))
-    where
-      counted : at division (at line j) ≡ 0 → (left′ + 1 ≡ left) × (total′ ≡ total + f (at line j)) → Adding f line division q (j + 1) left′ total′
-      counted e (a, b) =
-          let more : left ≡ suc left′ = omega arith in
-          let front : picked (drop j line) left division ≡ at line j ∷ picked (drop (j + 1) line) left′ division =
-          rw (rest-of line j l, more) (picked-free division (drop (j + 1) line) (at line j) left′ e) in
-          record { room = omega (arith, h .room); rest = omega (arith, h .rest, ap (sum f) front) }
+  module _ {j left total : ℕ} (h : Adding f line division q j left total) where
+    -- none is left to be found
+    pub adding-done : left ≡ 0 → total ≡ sum f (picked line q division)
+    adding-done e = let whole = rw e at (h .rest) in omega (arith, whole)
 
-      passed : (at division (at line j) ≡ 0 → ⊥) → (left′ ≡ left) × (total′ ≡ total) → Adding f line division q (j + 1) left′ total′
-      passed n (a, b) =
-          let front : picked (drop j line) left division ≡ picked (drop (j + 1) line) left division =
-          rw (rest-of line j l) (picked-past division (drop (j + 1) line) (at line j) left n) in
-          record { room = omega (arith, h .room); rest = rw (a, b) (rw front at (h .rest)) }
+    -- or the line has come to its end
+    pub adding-end : length line ≤ j → j ≤ length line → total ≡ sum f (picked line q division)
+    adding-end l m =
+        let none : sum f (picked (drop j line) left division) ≡ 0 = rw (rest-none line j l m, picked-empty division left) refl in
+        omega (arith, h .rest)
 
-  -- none is left to be found
-  pub adding-done : (j left total : ℕ) → left ≡ 0 → Adding f line division q j left total → total ≡ sum f (picked line q division)
-  adding-done j left total e h = let whole = rw e at (h .rest) in omega (arith, whole)
+    module _ (l : j < length line) where
+      -- one street more
+      pub adding-more : {left′ total′ : ℕ} → Stepped (f (at line j)) (at division (at line j)) left total left′ total′ → 0 < left
+          → f (at line j) ≤ mostValue → Adding f line division q (j + 1) left′ total′
+      adding-more {left′} {total′} step some small =
+          by-cases (ℕ-discrete (at division (at line j)) 0) (λ e. counted e (step .counted e)) (λ n. passed n (step .passed n))
+        where
+          counted : at division (at line j) ≡ 0 → (left′ + 1 ≡ left) × (total′ ≡ total + f (at line j)) → Adding f line division q (j + 1) left′ total′
+          counted e (a, b) =
+              let more : left ≡ suc left′ = omega arith in
+              let front : picked (drop j line) left division ≡ at line j ∷ picked (drop (j + 1) line) left′ division =
+              rw (rest-of line j l, more) (picked-free division (drop (j + 1) line) (at line j) left′ e) in
+              record { room = omega (arith, h .room); rest = omega (arith, h .rest, ap (sum f) front) }
 
-  -- or the line has come to its end
-  pub adding-end : (j left total : ℕ) → length line ≤ j → j ≤ length line → Adding f line division q j left total → total ≡ sum f (picked line q division)
-  adding-end j left total l m h =
-      let none : sum f (picked (drop j line) left division) ≡ 0 = rw (rest-none line j l m, picked-empty division left) refl in
-      omega (arith, h .rest)
+          passed : (at division (at line j) ≡ 0 → ⊥) → (left′ ≡ left) × (total′ ≡ total) → Adding f line division q (j + 1) left′ total′
+          passed n (a, b) =
+              let front : picked (drop j line) left division ≡ picked (drop (j + 1) line) left division =
+              rw (rest-of line j l) (picked-past division (drop (j + 1) line) (at line j) left n) in
+              record { room = omega (arith, h .room); rest = rw (a, b) (rw front at (h .rest)) }
 
-  -- or a street has the value 0, and so have all that follow
-  pub adding-stop : Falls f line → (j left total : ℕ) → j < length line → f (at line j) ≡ 0 → Adding f line division q j left total
-      → total ≡ sum f (picked line q division)
-  adding-stop falls j left total l e h = omega (arith, h .rest, sum-le f (λ s. 0) rest worthless, sum-even 0 rest)
-    where
-      rest : List ℕ
-      rest = picked (drop j line) left division
+      -- or it has the value 0, and so have all that follow
+      pub adding-stop : f (at line j) ≡ 0 → Falls f line → total ≡ sum f (picked line q division)
+      adding-stop e falls = omega (arith, h .rest, sum-le f (λ s. 0) rest worthless, sum-even 0 rest)
+        where
+          rest : List ℕ
+          rest = picked (drop j line) left division
 
-      worthless : (s : ℕ) → has s rest ≡ true → f s ≤ 0
-      worthless s in-rest =
-          let (i, short, here) = has-index s (drop j line) (only-has (free division) s (drop j line) (has-take left s _ in-rest) .0) in
-          let there : at line (j + i) ≡ s = sym (getD-drop j line i 0) ∙ here in
-          let fall : f (at line (j + i)) ≤ f (at line j) = falls j (j + i) (omega arith) (omega (arith, length-drop j line)) in
-          omega (arith, rw there at fall)
+          worthless : (s : ℕ) → has s rest ≡ true → f s ≤ 0
+          worthless s in-rest =
+              let (i, short, here) = has-index s (drop j line) (only-has (free division) s (drop j line) (has-take left s _ in-rest) .0) in
+              let there : at line (j + i) ≡ s = sym (getD-drop j line i 0) ∙ here in
+              let fall : f (at line (j + i)) ≤ f (at line j) = falls j (j + i) (omega arith) (omega (arith, length-drop j line)) in
+              omega (arith, rw there at fall)
 
 -- the first q free streets of a line given to a site, of which the line from j on still has `left`
 pub record Giving (a : ℕ) (line before start : List ℕ) (q j left : ℕ) (division : List ℕ) : Type 0 where
   pub long : length division ≡ length before
   pub rest : give a (picked (drop j line) left before) division ≡ give a (picked line q before) start
 
-module _ (a : ℕ) (line before start : List ℕ) (q : ℕ) where
+module _ {a : ℕ} {line before start : List ℕ} {q : ℕ} where
   -- none is given yet
   pub giving-none : length before ≡ length start → Giving a line before start q 0 q start
   giving-none e = record { long = sym e; rest = refl }
 
-  -- one street more
-  pub giving-more : (j left left′ : ℕ) (division division′ : List ℕ) → j < length line → 0 < left → length division′ ≡ length division
-      → Giving a line before start q j left division
-      → (at before (at line j) ≡ 0 → (left′ + 1 ≡ left) × (division′ ≡ give a (at line j ∷ []) division))
-      → ((at before (at line j) ≡ 0 → ⊥) → (left′ ≡ left) × (division′ ≡ division))
-      → Giving a line before start q (j + 1) left′ division′
-  giving-more j left left′ division division′ l some size h given passed =
-      by-cases (ℕ-discrete (at before (at line j)) 0) (λ e. yes-given e (given e)) (λ n. not-given n (passed n))
-    where
-      yes-given : at before (at line j) ≡ 0 → (left′ + 1 ≡ left) × (division′ ≡ give a (at line j ∷ []) division)
-          → Giving a line before start q (j + 1) left′ division′
-      yes-given e (x, y) =
-          let more : left ≡ suc left′ = omega arith in
-          let front : picked (drop j line) left before ≡ at line j ∷ picked (drop (j + 1) line) left′ before =
-          rw (rest-of line j l, more) (picked-free before (drop (j + 1) line) (at line j) left′ e) in
-          record { long = omega (arith, h .long); rest = rw y (rw front at (h .rest)) }
+  module _ {j left : ℕ} {division : List ℕ} (h : Giving a line before start q j left division) where
+    -- all are given
+    pub giving-done : left ≡ 0 → division ≡ give a (picked line q before) start
+    giving-done e = rw e at (h .rest)
 
-      not-given : (at before (at line j) ≡ 0 → ⊥) → (left′ ≡ left) × (division′ ≡ division) → Giving a line before start q (j + 1) left′ division′
-      not-given n (x, y) =
-          let front : picked (drop j line) left before ≡ picked (drop (j + 1) line) left before =
-          rw (rest-of line j l) (picked-past before (drop (j + 1) line) (at line j) left n) in
-          record { long = omega (arith, h .long); rest = rw (x, y) (rw front at (h .rest)) }
+    -- or the line has come to its end
+    pub giving-end : length line ≤ j → j ≤ length line → division ≡ give a (picked line q before) start
+    giving-end l m =
+        let none : picked (drop j line) left before ≡ [] = rw (rest-none line j l m) (picked-empty before left) in
+        rw none at (h .rest)
 
-  -- all are given
-  pub giving-done : (j left : ℕ) (division : List ℕ) → left ≡ 0 → Giving a line before start q j left division → division ≡ give a (picked line q before) start
-  giving-done j left division e h = rw e at (h .rest)
+    -- one street more
+    pub giving-more : (left′ : ℕ) (division′ : List ℕ) → j < length line → 0 < left → length division′ ≡ length division
+        → (at before (at line j) ≡ 0 → (left′ + 1 ≡ left) × (division′ ≡ give a (at line j ∷ []) division))
+        → ((at before (at line j) ≡ 0 → ⊥) → (left′ ≡ left) × (division′ ≡ division))
+        → Giving a line before start q (j + 1) left′ division′
+    giving-more left′ division′ l some size given passed =
+        by-cases (ℕ-discrete (at before (at line j)) 0) (λ e. yes-given e (given e)) (λ n. not-given n (passed n))
+      where
+        yes-given : at before (at line j) ≡ 0 → (left′ + 1 ≡ left) × (division′ ≡ give a (at line j ∷ []) division)
+            → Giving a line before start q (j + 1) left′ division′
+        yes-given e (x, y) =
+            let more : left ≡ suc left′ = omega arith in
+            let front : picked (drop j line) left before ≡ at line j ∷ picked (drop (j + 1) line) left′ before =
+            rw (rest-of line j l, more) (picked-free before (drop (j + 1) line) (at line j) left′ e) in
+            record { long = omega (arith, h .long); rest = rw y (rw front at (h .rest)) }
 
-  -- or the line has come to its end
-  pub giving-end : (j left : ℕ) (division : List ℕ) → length line ≤ j → j ≤ length line → Giving a line before start q j left division
-      → division ≡ give a (picked line q before) start
-  giving-end j left division l m h =
-      let none : picked (drop j line) left before ≡ [] = rw (rest-none line j l m) (picked-empty before left) in
-      rw none at (h .rest)
+        not-given : (at before (at line j) ≡ 0 → ⊥) → (left′ ≡ left) × (division′ ≡ division) → Giving a line before start q (j + 1) left′ division′
+        not-given n (x, y) =
+            let front : picked (drop j line) left before ≡ picked (drop (j + 1) line) left before =
+            rw (rest-of line j l) (picked-past before (drop (j + 1) line) (at line j) left n) in
+            record { long = omega (arith, h .long); rest = rw (x, y) (rw front at (h .rest)) }
 
 -- the cell of a street and a site lies in the table, which is small
-pub cell-fits : (n m : ℕ) (values : List ℕ) → Table n m values → (s a : ℕ) → s < n → a ≤ m → (s * (m + 1) + a < length values) × (length values ≤ 26000)
-cell-fits n m values t s a l o = (
+pub cell-fits : {n m : ℕ} {values : List ℕ} → StreetTable n m values → (s a : ℕ) → s < n → a ≤ m
+    → (s * (m + 1) + a < length values) × (length values ≤ mostEntries)
+cell-fits {n} {m} t s a l o = (
   omega (arith, in-rows s n (m + 1) a l (omega arith), t .size),
   omega (arith, t .size, table-small n m (t .few-streets) (t .few-sites)),
 )

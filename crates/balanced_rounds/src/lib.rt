@@ -1,25 +1,23 @@
 // The balanced plan's rounds: a state that holds the sites chosen so far and each street's site, passed by value from round to round.
 ghost use mathlib.Core.Path.{_≡_};
-ghost use mathlib.Core.Bool.{false};
 ghost use Prim.Native.Nat.{ℕ, _+_, _≤_, _<_};
-ghost use lib.ListN.{length, getD};
-ghost use Rattle.counting.specs.Words.{_unless_};
-ghost use Rattle.counting.specs.Lists.{at, sum};
+ghost use lib.ListN.{length};
+ghost use Rattle.counting.specs.Bounds.{mostStreets, mostSites};
+ghost use Rattle.counting.specs.Lists.{at};
 ghost use Rattle.counting.specs.Greatest.{greatest};
-ghost use Rattle.survey.specs.Rows.{rowOf};
-ghost use Rattle.values.specs.Table.{Table, valueIn};
-ghost use Rattle.free_rounds.specs.Held.{unflagged};
+ghost use Rattle.tables.specs.Tables.{valueIn};
+ghost use Rattle.choices.specs.Scan.{unflagged};
 ghost use Rattle.balanced_plan.specs.Rounds.{worth, choice, taken, rounds, evenShare};
-ghost use Rattle.balanced_rounds.specs.Lines.{Orders, Lines, Falling, Held, picked, stateOf, emptyState};
+ghost use Rattle.balanced_rounds.specs.Lines.{Orders, Lines, RoundTables, WellFormed, lineWorth, stateOf, emptyState};
 
 mod walks;
 
 // The sites chosen so far in order of choice, a flag for each of them, and each street's site, 0 while it is free.
 pub struct State {
-    pub chosen: [u8; 64],
+    pub chosen: [u8; counting::SITES],
     pub count: usize,
     pub flags: [bool; 256],
-    pub division: [u8; 400],
+    pub division: [u8; counting::STREETS],
 }
 
 // The worth of the site a, 0 where it is chosen.
@@ -32,9 +30,9 @@ fn worth_of(
     q: usize,
     a: usize,
 ) -> u32
-    requires { ⌜ Table (length (now division)) m (now values) × Lines (length (now division)) m (now orders) × Falling (valueIn (now values) m) (length (now division)) m (now orders) ⌝ }
-    requires { ⌜ (length (now flags) ≡ 256) × (a ≤ m) × (q ≤ 400) ⌝ }
-    ensures { λ r. ⌜ r ≡ sum (λ s. valueIn (now (values .entry)) m s a) (picked (rowOf (length (now (division .entry))) (now (orders .entry)) a) q (now (division .entry))) unless getD (now (flags .entry)) a false ⌝ }
+    requires { ⌜ RoundTables (length (now division)) m (now values) (now orders) ⌝ }
+    requires { ⌜ (length (now flags) ≡ 256) × (a ≤ m) × (q ≤ mostStreets) ⌝ }
+    ensures { λ r. ⌜ r ≡ lineWorth (now (values .entry)) m (now (orders .entry)) (now (division .entry)) (now (flags .entry)) q a ⌝ }
 {
     if flags[a] {
         return 0;
@@ -55,9 +53,10 @@ fn fill_worths(
     q: usize,
     worths: &mut [u32],
 )
-    requires { ⌜ Table (length (now division)) m (now values) × Lines (length (now division)) m (now orders) × Falling (valueIn (now values) m) (length (now division)) m (now orders) ⌝ }
-    requires { ⌜ (length (now flags) ≡ 256) × (q ≤ 400) × (length (now worths) ≡ m + 1) ⌝ }
-    ensures { λ _. ⌜ ((a : ℕ) → a ≤ m → at (now (worths .exit)) a ≡ sum (λ s. valueIn (now (values .entry)) m s a) (picked (rowOf (length (now (division .entry))) (now (orders .entry)) a) q (now (division .entry))) unless getD (now (flags .entry)) a false) ⌝ }
+    requires { ⌜ RoundTables (length (now division)) m (now values) (now orders) ⌝ }
+    requires { ⌜ (length (now flags) ≡ 256) × (q ≤ mostStreets) × (length (now worths) ≡ m + 1) ⌝ }
+    ensures { λ _. ⌜ ((a : ℕ) → a ≤ m
+        → at (now (worths .exit)) a ≡ lineWorth (now (values .entry)) m (now (orders .entry)) (now (division .entry)) (now (flags .entry)) q a) ⌝ }
 {
     for a in 0..worths.len() {
         worths[a] = worth_of(values, orders, division, flags, m, q, a);
@@ -73,15 +72,16 @@ fn choose(
     m: usize,
     q: usize,
 ) -> usize
-    requires { ⌜ Table (length (now division)) m (now values) × Lines (length (now division)) m (now orders) × Falling (valueIn (now values) m) (length (now division)) m (now orders) ⌝ }
-    requires { ⌜ (length (now flags) ≡ 256) × (q ≤ 400) ⌝ }
+    requires { ⌜ RoundTables (length (now division)) m (now values) (now orders) ⌝ }
+    requires { ⌜ (length (now flags) ≡ 256) × (q ≤ mostStreets) ⌝ }
     ensures site { λ r. ⌜ r ≤ m ⌝ }
-    ensures choice { λ r. ⌜ ((key : ℕ → ℕ → ℕ) → Orders key (length (now (division .entry))) m (now (orders .entry)) → r ≡ greatest (unflagged (now (flags .entry))) (worth (valueIn (now (values .entry)) m) key q (now (division .entry))) m) ⌝ }
+    ensures choice { λ r. ⌜ ((key : ℕ → ℕ → ℕ) → Orders key (length (now (division .entry))) m (now (orders .entry))
+        → r ≡ greatest (unflagged (now (flags .entry))) (worth (valueIn (now (values .entry)) m) key q (now (division .entry))) m) ⌝ }
 {
     let width = m + 1;
-    let mut worths = [0u32; 65];
+    let mut worths = [0u32; counting::WIDTH];
     fill_worths(values, orders, division, flags, m, q, &mut worths[..width]);
-    free_rounds::pick::best_site(&worths[..width], flags, m)
+    choices::best_site(&worths[..width], flags, m)
 }
 
 impl State {
@@ -90,18 +90,18 @@ impl State {
         ensures { λ r. ⌜ r ≡ emptyState ⌝ }
     {
         Self {
-            chosen: [0u8; 64],
+            chosen: [0u8; counting::SITES],
             count: 0,
             flags: [false; 256],
-            division: [0u8; 400],
+            division: [0u8; counting::STREETS],
         }
     }
 
     // The state once a site has been chosen and has taken its streets.
     fn taking(mut self, orders: &[u16], n: usize, m: usize, q: usize, site: u8) -> Self
-        requires { ⌜ Lines n m (now orders) × (n ≤ 400) ⌝ }
-        requires { ⌜ Held self × (self .count < 64) × (site ≤ m) × (m ≤ 64) ⌝ }
-        ensures held { λ r. ⌜ Held r × (r .count ≡ self .count + 1) ⌝ }
+        requires { ⌜ Lines n m (now orders) × (n ≤ mostStreets) ⌝ }
+        requires { ⌜ WellFormed self × (self .count < mostSites) × (site ≤ m) × (m ≤ mostSites) ⌝ }
+        ensures held { λ r. ⌜ WellFormed r × (r .count ≡ self .count + 1) ⌝ }
         ensures state { λ r. ⌜ ((key : ℕ → ℕ → ℕ) → Orders key n m (now (orders .entry)) → stateOf n r ≡ taken key q (stateOf n self) site) ⌝ }
     {
         let at = self.count;
@@ -120,10 +120,11 @@ impl State {
 
     // One round: the site of greatest worth is chosen and takes its streets.
     pub fn round(mut self, values: &[u32], orders: &[u16], n: usize, m: usize, q: usize) -> Self
-        requires { ⌜ Table n m (now values) × Lines n m (now orders) × Falling (valueIn (now values) m) n m (now orders) ⌝ }
-        requires { ⌜ Held self × (self .count < 64) × (q ≤ 400) ⌝ }
-        ensures held { λ r. ⌜ Held r × (r .count ≡ self .count + 1) ⌝ }
-        ensures state { λ r. ⌜ ((key : ℕ → ℕ → ℕ) → Orders key n m (now (orders .entry)) → stateOf n r ≡ taken key q (stateOf n self) (choice (valueIn (now (values .entry)) m) key m q (stateOf n self))) ⌝ }
+        requires { ⌜ RoundTables n m (now values) (now orders) ⌝ }
+        requires { ⌜ WellFormed self × (self .count < mostSites) × (q ≤ mostStreets) ⌝ }
+        ensures held { λ r. ⌜ WellFormed r × (r .count ≡ self .count + 1) ⌝ }
+        ensures state { λ r. ⌜ ((key : ℕ → ℕ → ℕ) → Orders key n m (now (orders .entry))
+            → stateOf n r ≡ taken key q (stateOf n self) (choice (valueIn (now (values .entry)) m) key m q (stateOf n self))) ⌝ }
     {
         let division = self.division;
         let flags = self.flags;
@@ -135,10 +136,11 @@ impl State {
 
 // The state after k rounds, each with the share n / k.
 pub fn rounds(values: &[u32], orders: &[u16], n: usize, m: usize, k: usize) -> State
-    requires { ⌜ Table n m (now values) × Lines n m (now orders) × Falling (valueIn (now values) m) n m (now orders) ⌝ }
+    requires { ⌜ RoundTables n m (now values) (now orders) ⌝ }
     requires { ⌜ (0 < k) × (k ≤ m) ⌝ }
-    ensures held { λ r. ⌜ Held r × (r .count ≡ k) ⌝ }
-    ensures state { λ r. ⌜ ((key : ℕ → ℕ → ℕ) → Orders key n m (now (orders .entry)) → stateOf n r ≡ rounds (valueIn (now (values .entry)) m) key n m (evenShare n k) k) ⌝ }
+    ensures held { λ r. ⌜ WellFormed r × (r .count ≡ k) ⌝ }
+    ensures state { λ r. ⌜ ((key : ℕ → ℕ → ℕ) → Orders key n m (now (orders .entry))
+        → stateOf n r ≡ rounds (valueIn (now (values .entry)) m) key n m (evenShare n k) k) ⌝ }
 {
     let q = n / k;
     let mut state = State::empty();

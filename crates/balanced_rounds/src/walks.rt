@@ -3,8 +3,9 @@ ghost use mathlib.Core.Path.{_≡_};
 ghost use mathlib.Core.List.{_∷_, []};
 ghost use Prim.Native.Nat.{_+_, _*_, _≤_, _<_};
 ghost use lib.ListN.{length};
+ghost use Rattle.counting.specs.Bounds.{mostStreets, mostValue, mostWorth};
 ghost use Rattle.counting.specs.Lists.{at, sum};
-ghost use Rattle.values.specs.Table.{Table, valueIn};
+ghost use Rattle.tables.specs.Tables.{StreetTable, valueIn};
 ghost use Rattle.balanced_plan.specs.Rounds.{give};
 ghost use Rattle.balanced_rounds.specs.Lines.{Line, Falls, Stepped, picked};
 
@@ -31,7 +32,7 @@ fn times(value: u32, once: u32) -> u32
 
 // One street more, by its value and its site: a free one is counted.
 fn step(tally: Tally, value: u32, site: u8) -> Tally
-    requires { ⌜ (0 < tally .left) × (tally .total ≤ 39600000) × (value ≤ 99000) ⌝ }
+    requires { ⌜ (0 < tally .left) × (tally .total ≤ mostWorth) × (value ≤ mostValue) ⌝ }
     ensures { λ r. ⌜ Stepped value site (tally .left) (tally .total) (r .left) (r .total) ⌝ }
 {
     let once = open(site);
@@ -44,8 +45,8 @@ fn step(tally: Tally, value: u32, site: u8) -> Tally
 // The worth of a site: the summed value of the first q streets of its line that are free. Values never rise along a line, so the walk ends
 // at the first street of value 0, free or not.
 pub fn worth(values: &[u32], m: usize, line: &[u16], division: &[u8], q: usize, a: usize) -> u32
-    requires { ⌜ Table (length (now division)) m (now values) × Line (now line) (now division) × Falls (λ s. valueIn (now values) m s a) (now line) ⌝ }
-    requires { ⌜ (a ≤ m) × (q ≤ 400) ⌝ }
+    requires { ⌜ StreetTable (length (now division)) m (now values) × Line (now line) (now division) × Falls (λ s. valueIn (now values) m s a) (now line) ⌝ }
+    requires { ⌜ (a ≤ m) × (q ≤ mostStreets) ⌝ }
     ensures { λ r. ⌜ r ≡ sum (λ s. valueIn (now (values .entry)) m s a) (picked (now (line .entry)) q (now (division .entry))) ⌝ }
 {
     let w = m + 1;

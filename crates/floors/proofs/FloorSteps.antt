@@ -11,22 +11,23 @@ use native.Mathlib.Omega.{arith}
 use lib.Dec.{leb}
 use lib.ListN.{length}
 use borrow.Author.Tests.{le-leb, lt-leb}
+use Rattle.counting.specs.Bounds.{mostStreets, topScore, mostTotal}
 use Rattle.counting.specs.Words.{sumOf}
 use Rattle.counting.proofs.Refusals.{when-yes, when-none}
 use Rattle.counting.proofs.Sums.{sumOf-next, sum-end}
-use Rattle.survey.specs.Rows.{listOfStreet, scoreAt, shortest}
+use Rattle.survey.specs.Rows.{rowAt, rankedPart, scoreAt, shortestOf}
 use Rattle.survey.specs.Accepted.{SoundScores}
 use Rattle.survey.proofs.Places.{score-bound}
 use Rattle.balanced_plan.specs.Rounds.{evenShare}
 use Rattle.balanced_plan.specs.Floor.{ceil, depth, sure, added, floor}
 
 -- the shortest list with one street more
-pub shortest-next : (m : ℕ) (rows : List ℕ) (s x y z : ℕ) → x ≡ shortest s m rows → y ≡ length (listOfStreet m rows s) → z ≡ min x y
-    → z ≡ shortest (s + 1) m rows
-shortest-next m rows s x y z e f g = rw (add-one s) (g ∙ ap (λ (u : ℕ). min u y) e ∙ ap (min (shortest s m rows)) f)
+pub shortest-next : (m : ℕ) (rows : List ℕ) (s x y z : ℕ) → x ≡ shortestOf s m rows → y ≡ length (rankedPart (rowAt m rows s)) → z ≡ min x y
+    → z ≡ shortestOf (s + 1) m rows
+shortest-next m rows s x y z e f g = rw (add-one s) (g ∙ ap (λ (u : ℕ). min u y) e ∙ ap (min (shortestOf s m rows)) f)
 
 -- and at the end that of all
-pub shortest-end : (n m : ℕ) (rows : List ℕ) (s x : ℕ) → n ≤ s → s ≤ n → x ≡ shortest s m rows → x ≡ shortest n m rows
+pub shortest-end : (n m : ℕ) (rows : List ℕ) (s x : ℕ) → n ≤ s → s ≤ n → x ≡ shortestOf s m rows → x ≡ shortestOf n m rows
 shortest-end n m rows s x a b e = rw (le-antisymm b a) at e
 
 -- a quotient that is rounded up is no more than the number and the divisor together
@@ -47,12 +48,12 @@ module _ (score : ℕ → ℕ) (t m k i r : ℕ) (e : r ≡ ceil (m - i) (k - i)
   sure-score x l f = rw place-is at (f ∙ when-yes (score (i + r)) (leb (i + r) t) (le-leb (i + r) t l))
 
 -- what a round adds: its share of at most 400 streets, with a score of at most 1,000 for each
-pub added-is : (scores : List ℕ) (n t m k i x : ℕ) → SoundScores scores → n ≤ 400 → x ≡ sure (scoreAt scores) t m k i
-    → (n / k * x ≡ added (evenShare n k) (scoreAt scores) t m k i) × (n / k * x ≤ 400000)
+pub added-is : (scores : List ℕ) (n t m k i x : ℕ) → SoundScores scores → n ≤ mostStreets → x ≡ sure (scoreAt scores) t m k i
+    → (n / k * x ≡ added (evenShare n k) (scoreAt scores) t m k i) × (n / k * x ≤ mostTotal)
 added-is scores n t m k i x sound few e =
     let p : ℕ = depth m k i in
     let score : ℕ = scoreAt scores p in
-    let low : x ≤ 1000 =
+    let low : x ≤ topScore =
     ⊎-elim (λ o. omega (arith, when-none score (leb p t) o)) (λ y. omega (arith, when-yes score (leb p t) y, score-bound scores p sound)) (dichotomy (leb p t)) in
     (ap (λ (y : ℕ). n / k * y) e, mul-le-mul {n₁ = n / k} {m₁ = x} {n₂ = 400} {m₂ = 1000} (omega (arith, div-le-self n k)) low)
 

@@ -3,14 +3,17 @@ use survey::rows;
 ghost use mathlib.Core.Path.{_≡_};
 ghost use Prim.Native.Nat.{_+_, _*_, _≤_, _<_, min};
 ghost use lib.ListN.{length};
-ghost use Rattle.survey.specs.Rows.{listOfStreet, scoreAt, shortest};
+ghost use Rattle.counting.specs.Bounds.{mostStreets, mostSites, mostTotal};
+ghost use Rattle.survey.specs.Town.{townOf, town};
+ghost use Rattle.survey.specs.Rows.{rowAt, rankedPart, scoreAt, shortestOf};
 ghost use Rattle.survey.specs.Accepted.{SoundScores, Accepted};
 ghost use Rattle.balanced_plan.specs.Rounds.{evenShare};
-ghost use Rattle.balanced_plan.specs.Floor.{ceil, sure, added, floor};
+ghost use Rattle.balanced_plan.specs.Floor.{ceil, sure, added};
+ghost use Rattle.plans.specs.Plans.{planFloor};
 
 // A quotient, rounded up.
 fn rounded_up(a: usize, b: usize) -> usize
-    requires { ⌜ (0 < b) × (b ≤ 64) × (a ≤ 64) ⌝ }
+    requires { ⌜ (0 < b) × (b ≤ mostSites) × (a ≤ mostSites) ⌝ }
     ensures { λ r. ⌜ r ≡ ceil a b ⌝ }
 {
     (a + (b - 1)) / b
@@ -26,7 +29,7 @@ fn lesser(x: usize, y: usize) -> usize
 // The length of a street's list.
 fn list_length(m: usize, rows: &[u8], s: usize) -> usize
     requires { ⌜ s * m + m ≤ length (now rows) ⌝ }
-    ensures { λ r. ⌜ r ≡ length (listOfStreet m (now (rows .entry)) s) ⌝ }
+    ensures { λ r. ⌜ r ≡ length (rankedPart (rowAt m (now (rows .entry)) s)) ⌝ }
 {
     let from = s * m;
     let to = from + m;
@@ -36,7 +39,7 @@ fn list_length(m: usize, rows: &[u8], s: usize) -> usize
 // The length of the shortest list.
 fn shortest(n: usize, m: usize, rows: &[u8]) -> usize
     requires { ⌜ length (now rows) ≡ n * m ⌝ }
-    ensures { λ r. ⌜ r ≡ shortest n m (now (rows .entry)) ⌝ }
+    ensures { λ r. ⌜ r ≡ shortestOf n m (now (rows .entry)) ⌝ }
 {
     let mut least = m;
     for s in 0..n {
@@ -47,7 +50,7 @@ fn shortest(n: usize, m: usize, rows: &[u8]) -> usize
 
 // The score that the round i is sure of for each street of its share: that at its place, where every list is so long.
 fn sure(scores: &[u16], t: usize, m: usize, k: usize, i: usize) -> u16
-    requires { ⌜ (i < k) × (k ≤ m) × (m ≤ 64) ⌝ }
+    requires { ⌜ (i < k) × (k ≤ m) × (m ≤ mostSites) ⌝ }
     ensures { λ r. ⌜ r ≡ sure (scoreAt (now (scores .entry))) t m k i ⌝ }
 {
     let place = i + rounded_up(m - i, k - i);
@@ -60,8 +63,8 @@ fn sure(scores: &[u16], t: usize, m: usize, k: usize, i: usize) -> u16
 // What the round i adds.
 fn added(scores: &[u16], t: usize, n: usize, m: usize, k: usize, i: usize) -> u32
     requires { ⌜ SoundScores (now scores) ⌝ }
-    requires { ⌜ (n ≤ 400) × (m ≤ 64) × (k ≤ m) × (i < k) ⌝ }
-    ensures { λ r. ⌜ (r ≡ added (evenShare n k) (scoreAt (now (scores .entry))) t m k i) × (r ≤ 400000) ⌝ }
+    requires { ⌜ (n ≤ mostStreets) × (m ≤ mostSites) × (k ≤ m) × (i < k) ⌝ }
+    ensures { λ r. ⌜ (r ≡ added (evenShare n k) (scoreAt (now (scores .entry))) t m k i) × (r ≤ mostTotal) ⌝ }
 {
     let score = sure(scores, t, m, k, i);
     (n / k) as u32 * score as u32
@@ -69,8 +72,8 @@ fn added(scores: &[u16], t: usize, n: usize, m: usize, k: usize, i: usize) -> u3
 
 // The floor of k rounds: the sum of what they add.
 pub fn floor(n: usize, m: usize, k: usize, scores: &[u16], rows: &[u8]) -> u32
-    requires { ⌜ Accepted n m (now scores) (now rows) × (1 ≤ k) × (k ≤ m) ⌝ }
-    ensures { λ r. ⌜ r ≡ floor (evenShare n k) (scoreAt (now (scores .entry))) (shortest n m (now (rows .entry))) m k ⌝ }
+    requires { ⌜ Accepted (townOf n m (now scores) (now rows)) × (1 ≤ k) × (k ≤ m) ⌝ }
+    ensures { λ r. ⌜ r ≡ planFloor (town n m scores rows) k ⌝ }
 {
     let t = shortest(n, m, rows);
     let mut total: u32 = 0;

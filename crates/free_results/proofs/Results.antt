@@ -7,61 +7,64 @@ use Prim.Native.Nat.{ℕ, _*_, _≤_, _<_}
 use native.Mathlib.Omega.{arith}
 use native.Mathlib.Decide.{decLt}
 use lib.ListN.{length, getD, take}
+use Rattle.counting.specs.Bounds.{mostStreets}
 use Rattle.counting.specs.Words.{_when_, sumOf}
 use Rattle.counting.specs.Lists.{at, has}
 use Rattle.counting.specs.Buffers.{listOf}
 use Rattle.counting.proofs.Refusals.{first-same}
 use Rattle.counting.proofs.Sums.{at-past, listOf-same, has-index}
+use Rattle.survey.specs.Town.{Town}
 use Rattle.survey.specs.Rows.{rowOf, listOfStreet, value}
 use Rattle.survey.specs.Accepted.{Accepted}
 use Rattle.survey.proofs.Places.{ranked-bound, valued-bound}
-use Rattle.free_plan.specs.Greedy.{total, goesTo, chosenAt}
+use Rattle.free_plan.specs.Greedy.{goesTo, chosenAt}
 use Rattle.free_plan.proofs.Valued.{AtMost}
 use Rattle.free_rounds.specs.declared.State.{State}
 use Rattle.free_rounds.specs.Held.{Held, Scores, sitesOf}
+use Rattle.plans.specs.Plans.{listTotal, freeDivision}
 use Rattle.free_rounds.proofs.Rounded.{bests-small, total-is}
 
 -- sites that are each at most m
 pub at-most-list : (m : ℕ) (sites : List ℕ) → ((i : ℕ) → at sites i ≤ m) → AtMost m sites
 at-most-list m sites h a i = let (j, l, e) = has-index a sites i in rw (← e) (h j)
 
-module _ (n m : ℕ) (scores rows : List ℕ) (ok : Accepted n m scores rows) (state : State) (held : Held (value m scores rows) n state) where
+module _ {t : Town} (ok : Accepted t) {state : State} (held : Held (value t) (t .n) state) where
   -- the streets' bests may be summed
-  pub total-ready : (length (state .bests) ≡ 400) × (n ≤ 400) × Scores (take n (state .bests))
-  total-ready =
-      (held .bests-size, ok .few-streets, bests-small (value m scores rows) n state held (λ s a. omega (arith, valued-bound ok s a)))
+  pub total-ready : (length (state .bests) ≡ mostStreets) × (t .n ≤ mostStreets) × Scores (take (t .n) (state .bests))
+  total-ready = (held .bests-size, ok .few-streets, bests-small (value t) (t .n) state held (λ s a. omega (arith, valued-bound ok s a)))
 
   -- the streets may be served
-  pub serve-ready : (i : ℕ) → i ≡ n → (length rows ≡ i * m) × (length (state .flags) ≡ 256)
+  pub serve-ready : (i : ℕ) → i ≡ t .n → (length (t .rows) ≡ i * t .m) × (length (state .flags) ≡ 256)
   serve-ready i e = (rw e (ok .rows-fit), held .flags .size)
 
   -- a street's list holds sites up to m alone
-  list-bound : (s : ℕ) → s < n → (j : ℕ) → at (listOfStreet m rows s) j ≤ m
-  list-bound s l = ranked-bound (rowOf m rows s) m (λ j. go j (decLt j (length (rowOf m rows s))))
+  list-bound : (s : ℕ) → s < t .n → (j : ℕ) → at (listOfStreet t s) j ≤ t .m
+  list-bound s l = ranked-bound (rowOf t s) (t .m) (λ j. go j (decLt j (length (rowOf t s))))
     where
-      go : (j : ℕ) → Dec (j < length (rowOf m rows s)) → at (rowOf m rows s) j ≤ m
+      go : (j : ℕ) → Dec (j < length (rowOf t s)) → at (rowOf t s) j ≤ t .m
       go j (yes q) = ok .sound-rows s l .named j q
-      go j (no q) = omega (arith, at-past (rowOf m rows s) j (omega arith))
+      go j (no q) = omega (arith, at-past (rowOf t s) j (omega arith))
 
-  module _ (S : List ℕ) (sites : sitesOf state ≡ S) where
+  module _ {S : List ℕ} (sites : sitesOf state ≡ S) where
     -- the sum is the total of the sites
-    pub total-found : (r : ℕ) → r ≡ sumOf n (at (take n (state .bests))) → r ≡ total (value m scores rows) n S
-    total-found r e = e ∙ total-is (value m scores rows) n state held ∙ ap (λ (T : List ℕ). total (value m scores rows) n T) sites
+    pub total-found : {r : ℕ} → r ≡ sumOf (t .n) (at (take (t .n) (state .bests))) → r ≡ listTotal t S
+    total-found e = e ∙ total-is (value t) (t .n) state held ∙ ap (λ (T : List ℕ). listTotal t T) sites
 
     -- by the flags a street goes where it goes by the sites
-    goes : (s : ℕ) → s < n → goesTo (λ a. getD (state .flags) a false) (listOfStreet m rows s) ≡ goesTo (λ a. has a S) (listOfStreet m rows s)
+    goes : (s : ℕ) → s < t .n → goesTo (λ a. getD (state .flags) a false) (listOfStreet t s) ≡ goesTo (λ a. has a S) (listOfStreet t s)
     goes s l =
-        first-same (length (listOfStreet m rows s)) (chosenAt (λ a. getD (state .flags) a false) (listOfStreet m rows s)) (chosenAt (λ a. has a S) (listOfStreet m rows s))
+        let list : List ℕ = listOfStreet t s in
+        first-same (length list) (chosenAt (λ a. getD (state .flags) a false) list) (chosenAt (λ a. has a S) list)
         (λ j lj.
-        let site = at (listOfStreet m rows s) j in
+        let site = at list j in
         let low : site < 256 = omega (arith, list-bound s l j, ok .few-sites) in
         ap (λ (t : Bool). site when t) (held .flags .right site low ∙ ap (λ (T : List ℕ). has site T) sites))
 
-    pub served : (i : ℕ) (division : List ℕ) → i ≡ n → division ≡ listOf i (λ s. goesTo (λ a. getD (state .flags) a false) (listOfStreet m rows s))
-        → division ≡ listOf n (λ s. goesTo (λ a. has a S) (listOfStreet m rows s))
-    served i division e d =
-        d ∙ ap (λ (k : ℕ). listOf k (λ s. goesTo (λ a. getD (state .flags) a false) (listOfStreet m rows s))) e ∙ listOf-same n _ _ (λ s l. goes s l)
+    pub served : {i : ℕ} {division : List ℕ} → i ≡ t .n → division ≡ listOf i (λ s. goesTo (λ a. getD (state .flags) a false) (listOfStreet t s))
+        → division ≡ freeDivision t S
+    served e d =
+        d ∙ ap (λ (k : ℕ). listOf k (λ s. goesTo (λ a. getD (state .flags) a false) (listOfStreet t s))) e ∙ listOf-same (t .n) _ _ (λ s l. goes s l)
 
     -- the sites come out in order of choice
-    pub copied : (k : ℕ) (chosen : List ℕ) → state .count ≡ k → chosen ≡ take k (state .chosen) → chosen ≡ S
-    copied k chosen e c = c ∙ ap (λ (i : ℕ). take i (state .chosen)) (sym e) ∙ sites
+    pub copied : {k : ℕ} {chosen : List ℕ} → state .count ≡ k → chosen ≡ take k (state .chosen) → chosen ≡ S
+    copied e c = c ∙ ap (λ (i : ℕ). take i (state .chosen)) (sym e) ∙ sites

@@ -11,15 +11,15 @@ use native.Mathlib.Nat.{le-antisymm, eq-zero-or-pos}
 use native.Mathlib.Omega.{arith}
 use lib.ListN.{length}
 use Rattle.counting.specs.Lists.{at, has}
-use Rattle.counting.specs.Buffers.{listOf}
 use Rattle.counting.proofs.Refusals.{when-zero, when-some, first-none, first-find}
 use Rattle.counting.proofs.Sums.{sumOf-same, has-at, has-index}
+use Rattle.survey.specs.Town.{Town}
 use Rattle.survey.specs.Rows.{rowOf, listOfStreet, placeIn, scoreAt, value}
 use Rattle.survey.specs.Accepted.{SoundScores}
 use Rattle.survey.proofs.Places.{place-none, place-at, place-first, score-none, score-next, scores-fall, ranked-sites}
-use Rattle.free_plan.specs.Greedy.{best, total, chosenAt, goesTo}
+use Rattle.free_plan.specs.Greedy.{best, chosenAt, goesTo}
+use Rattle.plans.specs.Plans.{listTotal, freeDivision, planTotal}
 use Rattle.free_plan.proofs.Totals.{best-has, best-le}
-use Rattle.division.specs.Shares.{divisionTotal}
 use Rattle.division.proofs.Counts.{divisionTotal-sum}
 
 -- a site that has no place in a street's list scores 0
@@ -86,8 +86,7 @@ goes-best scores L S sound sites = ⊎-elim none some (eq-zero-or-pos (goesTo (�
         ap score (sym e ∙ w) ∙ first-best L S sites scores sound i l h before
 
 -- the streets' scores for the sites they go to sum to the total of the chosen sites
-pub served-total : (n m : ℕ) (scores rows S : List ℕ) → SoundScores scores
-    → divisionTotal (value m scores rows) (listOf n (λ s. goesTo (λ a. has a S) (listOfStreet m rows s))) ≡ total (value m scores rows) n S
-served-total n m scores rows S sound =
-    divisionTotal-sum (value m scores rows) n (λ s. goesTo (λ a. has a S) (listOfStreet m rows s))
-    ∙ sumOf-same n _ _ (λ s l. goes-best scores (listOfStreet m rows s) S sound (ranked-sites (rowOf m rows s)))
+pub served-total : (t : Town) (S : List ℕ) → SoundScores (t .scores) → planTotal t (freeDivision t S) ≡ listTotal t S
+served-total t S sound =
+    divisionTotal-sum (value t) (t .n) (λ s. goesTo (λ a. has a S) (listOfStreet t s))
+    ∙ sumOf-same (t .n) _ _ (λ s l. goes-best (t .scores) (listOfStreet t s) S sound (ranked-sites (rowOf t s)))

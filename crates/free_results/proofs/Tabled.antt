@@ -4,27 +4,31 @@ use mathlib.Core.Path.{_≡_, sym, subst, _∙_}
 use mathlib.Core.List.{List, _++_}
 use Prim.Native.Nat.{ℕ, _+_, _*_}
 use lib.ListN.{take}
+use Rattle.survey.specs.Town.{Town}
 use Rattle.survey.specs.Rows.{value}
 use Rattle.survey.specs.Accepted.{Accepted}
-use Rattle.site_values.specs.Table.{Valued, siteValue}
-use Rattle.site_values.proofs.Tabled.{table-same}
+use Rattle.tables.specs.Tables.{Tabled, siteValue}
+use Rattle.tables.proofs.Tabled.{site-same}
 use Rattle.free_plan.specs.Greedy.{greedy}
 use Rattle.free_plan.proofs.Valued.{AtMost, best-agree, greedy-agree, greedy-most}
 use Rattle.free_rounds.specs.declared.State.{State}
 use Rattle.free_rounds.specs.Held.{Held, sitesOf}
 
-module _ (n m : ℕ) (scores rows : List ℕ) (ok : Accepted n m scores rows) (table rest : List ℕ) (h : Valued (value m scores rows) n m table)
-    (k : ℕ) (start : List ℕ) (low : AtMost m start) (state : State)
-    (sites : sitesOf state ≡ greedy (siteValue (take ((m + 1) * n) (table ++ rest)) n) n m k start) where
-  pub sites-planned : sitesOf state ≡ greedy (value m scores rows) n m k start
-  sites-planned = sites ∙ greedy-agree (siteValue (take ((m + 1) * n) (table ++ rest)) n) (value m scores rows) n m (table-same n m scores rows ok table rest h) k start low
+module _ {t : Town} (ok : Accepted t) {table : List ℕ} (rest : List ℕ) (h : Tabled (λ a s. value t s a) (t .m + 1) (t .n) table) where
+  -- the values that the engine reads
+  abbrev v : ℕ → ℕ → ℕ
+  v = siteValue (take ((t .m + 1) * t .n) (table ++ rest)) (t .n)
 
-  pub held-planned : Held (siteValue (take ((m + 1) * n) (table ++ rest)) n) n state → Held (value m scores rows) n state
-  held-planned held =
-      record {
-        chosen-size = held .chosen-size;
-        bests-size = held .bests-size;
-        flags = held .flags;
-        bests = λ s l. held .bests s l ∙ best-agree (siteValue (take ((m + 1) * n) (table ++ rest)) n) (value m scores rows) n m (table-same n m scores rows ok table rest h) s l (sitesOf state)
-            (subst (AtMost m) (sym sites) (greedy-most (siteValue (take ((m + 1) * n) (table ++ rest)) n) n m k start low));
-      }
+  module _ (k : ℕ) (start : List ℕ) (low : AtMost (t .m) start) (state : State) (sites : sitesOf state ≡ greedy v (t .n) (t .m) k start) where
+    pub sites-planned : sitesOf state ≡ greedy (value t) (t .n) (t .m) k start
+    sites-planned = sites ∙ greedy-agree v (value t) (t .n) (t .m) (site-same ok rest h) k start low
+
+    pub held-planned : Held v (t .n) state → Held (value t) (t .n) state
+    held-planned held =
+        record {
+          chosen-size = held .chosen-size;
+          bests-size = held .bests-size;
+          flags = held .flags;
+          bests = λ s l. held .bests s l ∙ best-agree v (value t) (t .n) (t .m) (site-same ok rest h) s l (sitesOf state)
+              (subst (AtMost (t .m)) (sym sites) (greedy-most v (t .n) (t .m) k start low));
+        }

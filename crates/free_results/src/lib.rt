@@ -1,35 +1,36 @@
 // From an accepted survey to the free plan's results: the table is filled, the engine chooses or takes the sites, and the streets are served.
 use free_rounds::State;
 ghost use mathlib.Core.Path.{_≡_};
-ghost use mathlib.Core.List.{[]};
 ghost use Prim.Native.Nat.{ℕ, _+_, _*_, _≤_};
 ghost use lib.ListN.{length, take};
+ghost use Rattle.counting.specs.Bounds.{mostStreets};
 ghost use Rattle.counting.specs.Words.{sumOf};
-ghost use Rattle.counting.specs.Lists.{at, has};
-ghost use Rattle.counting.specs.Buffers.{listOf};
-ghost use Rattle.survey.specs.Rows.{value, listOfStreet};
+ghost use Rattle.counting.specs.Lists.{at};
+ghost use Rattle.survey.specs.Town.{townOf, town, was, is};
+ghost use Rattle.survey.specs.Rows.{value};
 ghost use Rattle.survey.specs.Accepted.{Accepted};
-ghost use Rattle.free_plan.specs.Greedy.{total, greedy, goesTo};
+ghost use Rattle.free_plan.specs.Greedy.{greedy};
+ghost use Rattle.plans.specs.Plans.{listTotal, freeDivision, freeSites};
 ghost use Rattle.free_rounds.specs.Held.{Held, Scores, sitesOf};
 
-pub mod serve;
+mod serve;
 
 // The state after k rounds from a given list of sites.
 fn planned(n: usize, m: usize, scores: &[u16], rows: &[u8], sites: &[u8], k: usize) -> State
-    requires { ⌜ Accepted n m (now scores) (now rows) ⌝ }
+    requires { ⌜ Accepted (townOf n m (now scores) (now rows)) ⌝ }
     requires { ⌜ (length (now sites) + k ≤ m) × ((i : ℕ) → at (now sites) i ≤ m) ⌝ }
-    ensures sites { λ r. ⌜ (r .count ≡ length (now (sites .entry)) + k) × (sitesOf r ≡ greedy (value m (now (scores .entry)) (now (rows .entry))) n m k (now (sites .entry))) ⌝ }
-    ensures held { λ r. ⌜ Held (value m (now (scores .entry)) (now (rows .entry))) n r ⌝ }
+    ensures sites { λ r. ⌜ (r .count ≡ length (was sites) + k) × (sitesOf r ≡ greedy (value (town n m scores rows)) n m k (was sites)) ⌝ }
+    ensures held { λ r. ⌜ Held (value (town n m scores rows)) n r ⌝ }
 {
     let size = (m + 1) * n;
-    let mut table = [0u16; 26000];
-    site_values::fill_values(n, m, scores, rows, &mut table[..size]);
+    let mut table = [0u16; counting::ENTRIES];
+    tables::by_site::fill_values(n, m, scores, rows, &mut table[..size]);
     free_rounds::rounds(&table[..size], n, m, sites, k)
 }
 
 // The total of a state's sites.
 fn total_of(state: State, n: usize) -> u32
-    requires { ⌜ (length (state .bests) ≡ 400) × (n ≤ 400) × Scores (take n (state .bests)) ⌝ }
+    requires { ⌜ (length (state .bests) ≡ mostStreets) × (n ≤ mostStreets) × Scores (take n (state .bests)) ⌝ }
     ensures { λ r. ⌜ r ≡ sumOf n (at (take n (state .bests))) ⌝ }
 {
     let bests = state.bests;
@@ -38,8 +39,8 @@ fn total_of(state: State, n: usize) -> u32
 
 // The total of a list of sites.
 pub fn list_total(n: usize, m: usize, scores: &[u16], rows: &[u8], sites: &[u8]) -> u32
-    requires { ⌜ Accepted n m (now scores) (now rows) × (length (now sites) ≤ m) × ((i : ℕ) → at (now sites) i ≤ m) ⌝ }
-    ensures { λ r. ⌜ r ≡ total (value m (now (scores .entry)) (now (rows .entry))) n (now (sites .entry)) ⌝ }
+    requires { ⌜ Accepted (townOf n m (now scores) (now rows)) × (length (now sites) ≤ m) × ((i : ℕ) → at (now sites) i ≤ m) ⌝ }
+    ensures { λ r. ⌜ r ≡ listTotal (town n m scores rows) (was sites) ⌝ }
 {
     total_of(planned(n, m, scores, rows, sites, 0), n)
 }
@@ -53,10 +54,10 @@ pub fn divide(
     sites: &[u8],
     division: &mut [u8],
 ) -> u32
-    requires { ⌜ Accepted n m (now scores) (now rows) × (length (now sites) ≤ m) × ((i : ℕ) → at (now sites) i ≤ m) ⌝ }
+    requires { ⌜ Accepted (townOf n m (now scores) (now rows)) × (length (now sites) ≤ m) × ((i : ℕ) → at (now sites) i ≤ m) ⌝ }
     requires { ⌜ length (now division) ≡ n ⌝ }
-    ensures total { λ r. ⌜ r ≡ total (value m (now (scores .entry)) (now (rows .entry))) n (now (sites .entry)) ⌝ }
-    ensures division { λ _. ⌜ now (division .exit) ≡ listOf n (λ s. goesTo (λ a. has a (now (sites .entry))) (listOfStreet m (now (rows .entry)) s)) ⌝ }
+    ensures total { λ r. ⌜ r ≡ listTotal (town n m scores rows) (was sites) ⌝ }
+    ensures division { λ _. ⌜ is division ≡ freeDivision (town n m scores rows) (was sites) ⌝ }
 {
     let state = planned(n, m, scores, rows, sites, 0);
     let flags = state.flags;
@@ -73,11 +74,11 @@ pub fn plan(
     division: &mut [u8],
     chosen: &mut [u8],
 ) -> u32
-    requires { ⌜ Accepted n m (now scores) (now rows) × (length (now chosen) ≤ m) ⌝ }
+    requires { ⌜ Accepted (townOf n m (now scores) (now rows)) × (length (now chosen) ≤ m) ⌝ }
     requires { ⌜ length (now division) ≡ n ⌝ }
-    ensures total { λ r. ⌜ r ≡ total (value m (now (scores .entry)) (now (rows .entry))) n (greedy (value m (now (scores .entry)) (now (rows .entry))) n m (length (now (chosen .entry))) []) ⌝ }
-    ensures division { λ _. ⌜ now (division .exit) ≡ listOf n (λ s. goesTo (λ a. has a (greedy (value m (now (scores .entry)) (now (rows .entry))) n m (length (now (chosen .entry))) [])) (listOfStreet m (now (rows .entry)) s)) ⌝ }
-    ensures chosen { λ _. ⌜ now (chosen .exit) ≡ greedy (value m (now (scores .entry)) (now (rows .entry))) n m (length (now (chosen .entry))) [] ⌝ }
+    ensures total { λ r. ⌜ r ≡ listTotal (town n m scores rows) (freeSites (town n m scores rows) (length (was chosen))) ⌝ }
+    ensures division { λ _. ⌜ is division ≡ freeDivision (town n m scores rows) (freeSites (town n m scores rows) (length (was chosen))) ⌝ }
+    ensures chosen { λ _. ⌜ is chosen ≡ freeSites (town n m scores rows) (length (was chosen)) ⌝ }
 {
     let k = chosen.len();
     let none = [0u8; 1];
@@ -85,6 +86,6 @@ pub fn plan(
     let flags = state.flags;
     let sites = state.chosen;
     serve::serve(rows, m, &flags, division);
-    serve::copy(&sites[..k], chosen);
+    buffers::copy_bytes(&sites[..k], chosen);
     total_of(state, n)
 }

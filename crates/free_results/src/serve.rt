@@ -4,7 +4,8 @@ ghost use mathlib.Core.Bool.{false};
 ghost use Prim.Native.Nat.{_+_, _*_, _≤_};
 ghost use lib.ListN.{length, getD};
 ghost use Rattle.counting.specs.Buffers.{listOf};
-ghost use Rattle.survey.specs.Rows.{rankedPart, listOfStreet};
+ghost use Rattle.survey.specs.Town.{was};
+ghost use Rattle.survey.specs.Rows.{rowAt, rankedPart};
 ghost use Rattle.free_plan.specs.Greedy.{goesTo};
 
 // Where a street with this row goes. One look at the row is enough: its first zero ends the ranked part, and the first site that is chosen wins.
@@ -28,7 +29,7 @@ fn first_flagged(row: &[u8], flags: &[bool]) -> u8
 // Where the street s goes.
 fn street(rows: &[u8], m: usize, s: usize, flags: &[bool]) -> u8
     requires { ⌜ (s * m + m ≤ length (now rows)) × (length (now flags) ≡ 256) ⌝ }
-    ensures { λ r. ⌜ r ≡ goesTo (λ a. getD (now (flags .entry)) a false) (listOfStreet m (now (rows .entry)) s) ⌝ }
+    ensures { λ r. ⌜ r ≡ goesTo (λ a. getD (now (flags .entry)) a false) (rankedPart (rowAt m (was rows) s)) ⌝ }
 {
     let from = s * m;
     let to = from + m;
@@ -38,19 +39,9 @@ fn street(rows: &[u8], m: usize, s: usize, flags: &[bool]) -> u8
 // Each street goes to the first of its list that is chosen, 0 if none is.
 pub fn serve(rows: &[u8], m: usize, flags: &[bool], division: &mut [u8])
     requires { ⌜ (length (now rows) ≡ length (now division) * m) × (length (now flags) ≡ 256) ⌝ }
-    ensures { λ _. ⌜ now (division .exit) ≡ listOf (length (now (division .entry))) (λ s. goesTo (λ a. getD (now (flags .entry)) a false) (listOfStreet m (now (rows .entry)) s)) ⌝ }
+    ensures { λ _. ⌜ now (division .exit) ≡ listOf (length (now (division .entry))) (λ s. goesTo (λ a. getD (now (flags .entry)) a false) (rankedPart (rowAt m (was rows) s))) ⌝ }
 {
     for s in 0..division.len() {
         division[s] = street(rows, m, s, flags);
-    }
-}
-
-// A buffer filled with a list of its own length.
-pub fn copy(list: &[u8], buffer: &mut [u8])
-    requires { ⌜ length (now list) ≡ length (now buffer) ⌝ }
-    ensures { λ _. ⌜ now (buffer .exit) ≡ now (list .entry) ⌝ }
-{
-    for i in 0..buffer.len() {
-        buffer[i] = list[i];
     }
 }

@@ -10,6 +10,7 @@ use native.Mathlib.Decide.{decLt}
 use lib.Dec.{ltb}
 use lib.ListN.{length, take, drop, set, length-set, length-take, length-append, length-drop, length-replicate, getD-replicate, List·getD-append, replicate}
 use lib.Seq.{take-suc-set, getD-take, length-take-le}
+use Rattle.counting.specs.Bounds.{mostStreets, mostSites}
 use Rattle.counting.specs.Words.{sumOf}
 use Rattle.counting.specs.Lists.{at}
 use Rattle.counting.specs.Greatest.{greatest, unchosen}
@@ -17,12 +18,13 @@ use Rattle.counting.specs.Buffers.{Mapped}
 use Rattle.counting.proofs.Greatest.{greatest-same}
 use Rattle.counting.proofs.Flagging.{flags-none, flags-more}
 use Rattle.counting.proofs.Sums.{sumOf-same, at-past}
-use Rattle.site_values.specs.Table.{siteValue}
+use Rattle.tables.specs.Tables.{siteValue}
 use Rattle.free_plan.specs.Greedy.{best, total, totalWith, pick}
 use Rattle.free_plan.proofs.Totals.{best-append, best-le, total-step, total-bound}
 use Rattle.free_rounds.proofs.RoundLoops.{bounded-same}
 use Rattle.free_rounds.specs.declared.State.{State}
-use Rattle.free_rounds.specs.Held.{Held, Bounded, Bounds, Scores, sitesOf, emptyState, unflagged, withSite}
+use Rattle.choices.specs.Scan.{unflagged}
+use Rattle.free_rounds.specs.Held.{Held, Bounded, Bounds, Scores, sitesOf, emptyState, withSite}
 
 -- the empty state holds nothing
 pub held-none : (v : ℕ → ℕ → ℕ) (n : ℕ) → Held v n emptyState
@@ -66,30 +68,30 @@ stateWith state site bests =
       bounds = state .bounds;
     }
 
-pub sites-more : (v : ℕ → ℕ → ℕ) (n : ℕ) (state : State) (site : ℕ) (bests : List ℕ) → Held v n state → state .count < 64
-    → sitesOf (stateWith state site bests) ≡ sitesOf state ++ (site ∷ [])
-sites-more v n state site bests h l = rw add-one (take-suc-set (state .chosen) (state .count) site (omega (arith, h .chosen-size)))
-
 -- the better of what the chosen sites give a street and what one site more does
 best-with : (f : ℕ → ℕ) (S : List ℕ) (a : ℕ) → max (best f S) (f a) ≡ best f (S ++ (a ∷ []))
 best-with f S a = sym (best-append f S (a ∷ []) ∙ omega arith)
 
-pub held-more : (v : ℕ → ℕ → ℕ) (n : ℕ) (state : State) (site : ℕ) (row part bests : List ℕ) → Held v n state → state .count < 64 → site < 256 → n ≤ 400
-    → ((s : ℕ) → s < n → at row s ≡ v s site) → Mapped (λ s x. max x (at row s)) (take n (state .bests)) part (length (take n (state .bests)))
-    → bests ≡ part ++ drop n (state .bests) → Held v n (stateWith state site bests)
-held-more v n state site row part bests h l small few same t e =
-    let sites = sites-more v n state site bests h l in
-    let whole : length (take n (state .bests)) ≡ n = length-take-le n (state .bests) (omega (arith, h .bests-size)) in
-    let front : length part ≡ n = t .size ∙ whole in
-    record {
-      chosen-size = simp length-set (h .chosen-size);
-      bests-size = ap length e ∙ omega (arith, length-append part (drop n (state .bests)), length-drop n (state .bests), h .bests-size);
-      flags = rw sites (flags-more (state .flags) (sitesOf state) site small (h .flags));
-      bests = λ s ls.
-          let now : at bests s ≡ at part s = ap (λ (b : List ℕ). at b s) e ∙ List·getD-append part (drop n (state .bests)) 0 s (omega arith) in
-          let old : at (take n (state .bests)) s ≡ best (v s) (sitesOf state) = getD-take n (state .bests) s 0 ls ∙ h .bests s ls in
-          now ∙ t .done s (omega arith) ∙ ap (λ (x : ℕ). max x (at row s)) old ∙ ap (λ (x : ℕ). max (best (v s) (sitesOf state)) x) (same s ls) ∙ best-with (v s) (sitesOf state) site ∙ ap (λ (S : List ℕ). best (v s) S) (sym sites);
-    }
+module _ {v : ℕ → ℕ → ℕ} {n : ℕ} {state : State} (h : Held v n state) (l : state .count < mostSites) (site : ℕ) where
+  pub sites-more : take (state .count + 1) (set (state .chosen) (state .count) site) ≡ sitesOf state ++ (site ∷ [])
+  sites-more = rw add-one (take-suc-set (state .chosen) (state .count) site (omega (arith, h .chosen-size)))
+
+  pub held-more : {part : List ℕ} (row : List ℕ) → site < 256 → n ≤ mostStreets → ((s : ℕ) → s < n → at row s ≡ v s site)
+      → Mapped (λ s x. max x (at row s)) (take n (state .bests)) part (length (take n (state .bests)))
+      → Held v n (stateWith state site (part ++ drop n (state .bests)))
+  held-more {part} row small few same t =
+      let whole : length (take n (state .bests)) ≡ n = length-take-le n (state .bests) (omega (arith, h .bests-size)) in
+      let front : length part ≡ n = t .size ∙ whole in
+      record {
+        chosen-size = simp length-set (h .chosen-size);
+        bests-size = omega (arith, length-append part (drop n (state .bests)), length-drop n (state .bests), h .bests-size);
+        flags = rw sites-more (flags-more (state .flags) (sitesOf state) site small (h .flags));
+        bests = λ s ls.
+            let old : at (take n (state .bests)) s ≡ best (v s) (sitesOf state) = getD-take n (state .bests) s 0 ls ∙ h .bests s ls in
+            List·getD-append part (drop n (state .bests)) 0 s (omega arith) ∙ t .done s (omega arith) ∙ ap (λ (x : ℕ). max x (at row s)) old
+            ∙ ap (λ (x : ℕ). max (best (v s) (sitesOf state)) x) (same s ls) ∙ best-with (v s) (sitesOf state) site
+            ∙ ap (λ (S : List ℕ). best (v s) S) (sym sites-more);
+      }
 
 -- two sites more score a street the same in either order
 swapped : (f : ℕ → ℕ) (S : List ℕ) (a b : ℕ) → best f (S ++ (a ∷ b ∷ [])) ≡ best f ((S ++ (b ∷ [])) ++ (a ∷ []))
@@ -98,13 +100,17 @@ swapped f S a b = omega (arith, best-append f S (a ∷ b ∷ []), best-append f 
 -- with one site more no other raises the total by more than it did
 rise-falls : (v : ℕ → ℕ → ℕ) (n : ℕ) (S : List ℕ) (a b : ℕ) → totalWith v n (S ++ (b ∷ [])) a + total v n S ≤ totalWith v n S b + totalWith v n S a
 rise-falls v n S a b =
-    omega (arith, total-step v n S (b ∷ []) a, sumOf-same n (λ s. best (v s) (S ++ (a ∷ b ∷ []))) (λ s. best (v s) ((S ++ (b ∷ [])) ++ (a ∷ []))) (λ s l. swapped (v s) S a b))
+    omega (
+      arith,
+      total-step v n S (b ∷ []) a,
+      sumOf-same n (λ s. best (v s) (S ++ (a ∷ b ∷ []))) (λ s. best (v s) ((S ++ (b ∷ [])) ++ (a ∷ []))) (λ s l. swapped (v s) S a b),
+    )
 
 -- so the bounds stay bounds
-pub bounds-more : (v : ℕ → ℕ → ℕ) (n : ℕ) (state : State) (site : ℕ) (bests : List ℕ) → Held v n state → state .count < 64
-    → Bounds v n state → Bounds v n (stateWith state site bests)
-bounds-more v n state site bests h l b =
-    rw (sites-more v n state site bests h l)
+pub bounds-more : {v : ℕ → ℕ → ℕ} {n : ℕ} {state : State} → Held v n state → state .count < mostSites → (site : ℕ)
+    → Bounds v n state → Bounds v n (stateWith state site (state .bests))
+bounds-more {v} {n} {state} h l site b =
+    rw (sites-more h l site)
     (record { size = b .size; right = λ a k. omega (arith, b .right a k, rise-falls v n (sitesOf state) a site); small = b .small })
 
 -- the state with other bounds
@@ -113,8 +119,8 @@ stateBounds state bounds =
     record { chosen = state .chosen; count = state .count; flags = state .flags; bests = state .bests; bounds = bounds }
 
 -- it holds what it did
-pub held-bounds : (v : ℕ → ℕ → ℕ) (n : ℕ) (state : State) (bounds : List ℕ) → Held v n state → Held v n (stateBounds state bounds)
-held-bounds v n state bounds h = record { chosen-size = h .chosen-size; bests-size = h .bests-size; flags = h .flags; bests = h .bests }
+pub held-bounds : {v : ℕ → ℕ → ℕ} {n : ℕ} {state : State} (bounds : List ℕ) → Held v n state → Held v n (stateBounds state bounds)
+held-bounds bounds h = record { chosen-size = h .chosen-size; bests-size = h .bests-size; flags = h .flags; bests = h .bests }
 
 -- each street's best is a score
 pub bests-small : (v : ℕ → ℕ → ℕ) (n : ℕ) (state : State) → Held v n state → ((s a : ℕ) → v s a ≤ 1000) → Scores (take n (state .bests))
@@ -130,12 +136,14 @@ with-is : (values : List ℕ) (n : ℕ) (state : State) → Held (siteValue valu
 with-is values n state h low a =
     let whole : length (take n (state .bests)) ≡ n = length-take-le n (state .bests) (omega (arith, h .bests-size)) in
     ap (λ (k : ℕ). sumOf k (λ s. max (at (take n (state .bests)) s) (siteValue values k s a))) whole
-    ∙ sumOf-same n _ _ (λ s ls. ap (λ (x : ℕ). max x (siteValue values n s a)) (getD-take n (state .bests) s 0 ls ∙ h .bests s ls) ∙ best-with (siteValue values n s) (sitesOf state) a)
+    ∙ sumOf-same n _ _
+    (λ s ls.
+    ap (λ (x : ℕ). max x (siteValue values n s a)) (getD-take n (state .bests) s 0 ls ∙ h .bests s ls) ∙ best-with (siteValue values n s) (sitesOf state) a)
 
 -- the site of greatest sum among those not flagged is the round's choice
-pub choice-is : (values : List ℕ) (n m : ℕ) (state : State) → Held (siteValue values n) n state → n ≤ 400 → m ≤ 64
+pub choice-is : (values : List ℕ) {n : ℕ} (m : ℕ) {state : State} → Held (siteValue values n) n state → n ≤ mostStreets → m ≤ mostSites
     → greatest (unflagged (state .flags)) (withSite values (take n (state .bests))) m ≡ pick (siteValue values n) n m (sitesOf state)
-choice-is values n m state h low few =
+choice-is values {n} m {state} h low few =
     greatest-same (unflagged (state .flags)) (unchosen (sitesOf state)) _ (totalWith (siteValue values n) n (sitesOf state)) m
     (λ a l. ap (λ (t : Bool). ltb 0 a && not t) (h .flags .right a (omega arith))) (λ a l y. with-is values n state h low a)
 
@@ -144,7 +152,7 @@ pub total-is : (v : ℕ → ℕ → ℕ) (n : ℕ) (state : State) → Held v n 
 total-is v n state h = sumOf-same n _ _ (λ s l. getD-take n (state .bests) s 0 l ∙ h .bests s l)
 
 -- the state's bounds as bounds of the sums of its bests, and back
-module _ (values : List ℕ) (n : ℕ) (state : State) (h : Held (siteValue values n) n state) (low : n ≤ 400) (bounds : List ℕ) where
+module _ (values : List ℕ) {n : ℕ} {state : State} (h : Held (siteValue values n) n state) (low : n ≤ mostStreets) (bounds : List ℕ) where
   so-is : sumOf (length (take n (state .bests))) (at (take n (state .bests))) ≡ total (siteValue values n) n (sitesOf state)
   so-is =
       ap (λ (k : ℕ). sumOf k (at (take n (state .bests)))) (length-take-le n (state .bests) (omega (arith, h .bests-size)))
@@ -152,8 +160,8 @@ module _ (values : List ℕ) (n : ℕ) (state : State) (h : Held (siteValue valu
 
   pub bounds-out : Bounded (totalWith (siteValue values n) n (sitesOf state)) (total (siteValue values n) n (sitesOf state)) bounds
       → Bounded (withSite values (take n (state .bests))) (sumOf (length (take n (state .bests))) (at (take n (state .bests)))) bounds
-  bounds-out b = bounded-same _ _ bounds b _ _ (λ a. sym (with-is values n state h low a)) (sym so-is)
+  bounds-out b = bounded-same b (λ a. sym (with-is values n state h low a)) (sym so-is)
 
   pub bounds-back : Bounded (withSite values (take n (state .bests))) (sumOf (length (take n (state .bests))) (at (take n (state .bests)))) bounds
       → Bounded (totalWith (siteValue values n) n (sitesOf state)) (total (siteValue values n) n (sitesOf state)) bounds
-  bounds-back b = bounded-same _ _ bounds b _ _ (λ a. with-is values n state h low a) so-is
+  bounds-back b = bounded-same b (λ a. with-is values n state h low a) so-is

@@ -1,10 +1,12 @@
-// The free plan's engine: a state that holds the sites chosen so far and each street's best score, passed by value from round to round.
+// The free plan's engine: a state that holds the sites chosen so far and each street's best score, passed by value from round to round. It is
+// the lazy greedy algorithm: a site's rise never grows, so the rise that was found last bounds it, and most sites need no new sum.
 ghost use mathlib.Core.Path.{_≡_};
 ghost use mathlib.Core.List.{_∷_, [], _++_};
 ghost use Prim.Native.Nat.{ℕ, _+_, _≤_, _<_};
 ghost use lib.ListN.{length};
+ghost use Rattle.counting.specs.Bounds.{mostSites};
 ghost use Rattle.counting.specs.Lists.{at};
-ghost use Rattle.site_values.specs.Table.{siteValue, Table};
+ghost use Rattle.tables.specs.Tables.{siteValue, SiteTable};
 ghost use Rattle.free_plan.specs.Greedy.{pick, greedy};
 ghost use Rattle.free_rounds.specs.Held.{Held, Bounds, sitesOf, emptyState};
 
@@ -14,11 +16,11 @@ pub mod sums;
 // The sites chosen so far in order of choice, a flag for each of them, the best score that they give each street,
 // and for each site a bound of what it would raise their total by.
 pub struct State {
-    pub chosen: [u8; 64],
+    pub chosen: [u8; counting::SITES],
     pub count: usize,
     pub flags: [bool; 256],
-    pub bests: [u16; 400],
-    pub bounds: [u32; 65],
+    pub bests: [u16; counting::STREETS],
+    pub bounds: [u32; counting::WIDTH],
 }
 
 impl State {
@@ -27,19 +29,19 @@ impl State {
         ensures { λ r. ⌜ r ≡ emptyState ⌝ }
     {
         Self {
-            chosen: [0u8; 64],
+            chosen: [0u8; counting::SITES],
             count: 0,
             flags: [false; 256],
-            bests: [0u16; 400],
-            bounds: [400000u32; 65],
+            bests: [0u16; counting::STREETS],
+            bounds: [400000u32; counting::WIDTH],
         }
     }
 
     // The state with one site more.
     pub fn taking(mut self, values: &[u16], n: usize, m: usize, site: u8) -> Self
-        requires { ⌜ Table n m (now values) ⌝ }
+        requires { ⌜ SiteTable n m (now values) ⌝ }
         requires { ⌜ Held (siteValue (now values) n) n self × Bounds (siteValue (now values) n) n self ⌝ }
-        requires { ⌜ (site ≤ m) × (self .count < 64) ⌝ }
+        requires { ⌜ (site ≤ m) × (self .count < mostSites) ⌝ }
         ensures sites { λ r. ⌜ (r .count ≡ self .count + 1) × (sitesOf r ≡ sitesOf self ++ (site ∷ [])) ⌝ }
         ensures held { λ r. ⌜ Held (siteValue (now (values .entry)) n) n r × Bounds (siteValue (now (values .entry)) n) n r ⌝ }
     {
@@ -58,10 +60,11 @@ impl State {
 
     // One round: the site that raises the total most is added.
     pub fn round(mut self, values: &[u16], n: usize, m: usize) -> Self
-        requires { ⌜ Table n m (now values) ⌝ }
+        requires { ⌜ SiteTable n m (now values) ⌝ }
         requires { ⌜ Held (siteValue (now values) n) n self × Bounds (siteValue (now values) n) n self ⌝ }
         requires { ⌜ self .count < m ⌝ }
-        ensures sites { λ r. ⌜ (r .count ≡ self .count + 1) × (sitesOf r ≡ sitesOf self ++ (pick (siteValue (now (values .entry)) n) n m (sitesOf self) ∷ [])) ⌝ }
+        ensures sites { λ r. ⌜ (r .count ≡ self .count + 1)
+            × (sitesOf r ≡ sitesOf self ++ (pick (siteValue (now (values .entry)) n) n m (sitesOf self) ∷ [])) ⌝ }
         ensures held { λ r. ⌜ Held (siteValue (now (values .entry)) n) n r × Bounds (siteValue (now (values .entry)) n) n r ⌝ }
     {
         let bests = self.bests;
@@ -76,8 +79,8 @@ impl State {
 
 // The state with the sites of a given list.
 fn taken(values: &[u16], n: usize, m: usize, sites: &[u8]) -> State
-    requires { ⌜ Table n m (now values) ⌝ }
-    requires { ⌜ (length (now sites) ≤ 64) × ((i : ℕ) → at (now sites) i ≤ m) ⌝ }
+    requires { ⌜ SiteTable n m (now values) ⌝ }
+    requires { ⌜ (length (now sites) ≤ mostSites) × ((i : ℕ) → at (now sites) i ≤ m) ⌝ }
     ensures sites { λ r. ⌜ (r .count ≡ length (now (sites .entry))) × (sitesOf r ≡ now (sites .entry)) ⌝ }
     ensures held { λ r. ⌜ Held (siteValue (now (values .entry)) n) n r × Bounds (siteValue (now (values .entry)) n) n r ⌝ }
 {
@@ -90,9 +93,10 @@ fn taken(values: &[u16], n: usize, m: usize, sites: &[u8]) -> State
 
 // The state after k rounds from a given list of sites.
 pub fn rounds(values: &[u16], n: usize, m: usize, sites: &[u8], k: usize) -> State
-    requires { ⌜ Table n m (now values) ⌝ }
+    requires { ⌜ SiteTable n m (now values) ⌝ }
     requires { ⌜ (length (now sites) + k ≤ m) × ((i : ℕ) → at (now sites) i ≤ m) ⌝ }
-    ensures sites { λ r. ⌜ (r .count ≡ length (now (sites .entry)) + k) × (sitesOf r ≡ greedy (siteValue (now (values .entry)) n) n m k (now (sites .entry))) ⌝ }
+    ensures sites { λ r. ⌜ (r .count ≡ length (now (sites .entry)) + k)
+        × (sitesOf r ≡ greedy (siteValue (now (values .entry)) n) n m k (now (sites .entry))) ⌝ }
     ensures held { λ r. ⌜ Held (siteValue (now (values .entry)) n) n r ⌝ }
 {
     let mut state = taken(values, n, m, sites);

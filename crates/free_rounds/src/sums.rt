@@ -2,6 +2,7 @@
 ghost use mathlib.Core.Path.{_≡_};
 ghost use Prim.Native.Nat.{_+_, _≤_, min, max};
 ghost use lib.ListN.{length};
+ghost use Rattle.counting.specs.Bounds.{mostStreets};
 ghost use Rattle.counting.specs.Words.{sumOf};
 ghost use Rattle.counting.specs.Lists.{at};
 ghost use Rattle.counting.specs.Buffers.{Mapped};
@@ -45,7 +46,7 @@ fn part(bests: &[u16], row: &[u16]) -> u16
 
 // The end of the part that starts at a street, of n streets.
 fn part_end(from: usize, n: usize) -> usize
-    requires { ⌜ from ≤ 400 ⌝ }
+    requires { ⌜ from ≤ mostStreets ⌝ }
     ensures { λ r. ⌜ r ≡ min (from + 64) n ⌝ }
 {
     let to = from + 64;
@@ -70,7 +71,7 @@ pub fn sum_with(bests: &[u16], row: &[u16]) -> u32
 
 // The sum of the streets' bests.
 pub fn sum(bests: &[u16]) -> u32
-    requires { ⌜ Scores (now bests) × (length (now bests) ≤ 400) ⌝ }
+    requires { ⌜ Scores (now bests) × (length (now bests) ≤ mostStreets) ⌝ }
     ensures { λ r. ⌜ r ≡ sumOf (length (now (bests .entry))) (at (now (bests .entry))) ⌝ }
 {
     let mut total: u32 = 0;

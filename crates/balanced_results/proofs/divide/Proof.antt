@@ -1,69 +1,65 @@
 -- `balanced_results::divide` meets its contract. Assumes nothing.
 use borrow.Author.Needs.{needs}
-use Rattle.balanced_results.proofs.ListShares.{shareable-of, as-surveyed}
-use Rattle.survey.specs.Rows.{value}
+use mathlib.Core.Path.{_≡_, sym}
+use Prim.Native.Nat.{ℕ, _+_}
 use native.Mathlib.Omega.{arith}
-use mathlib.Core.Path.{sym}
-use Prim.Native.Nat.{_+_}
+use lib.ListN.{length, take, replicate}
+use Rattle.counting.proofs.Equations.{along}
 use Rattle.counting.proofs.Parts.{front-length, front-blank}
-use Rattle.values.proofs.Tabled.{table-of, table-fits, table-blank, table-room, table-size, table-ready, table-same}
+use Rattle.tables.proofs.Tabled.{part-blank, part-room, part-size, street-fits, street-ready, street-same}
+use Rattle.balanced_results.specs.Shareable.{Shareable}
+use Rattle.balanced_results.proofs.ListShares.{as-surveyed}
 use Rattle.balanced_results.proofs.divide.Statement.{statement}
 use Rattle.balanced_results.proofs.divide.Tie as tie
 
+-- once the table is filled
+abbrev entry : tie.After-fill-values → tie.Start
+entry i = i .before .before .before .before .before .before
+
+-- the buffers of shares have a place for each site and for site 0
+shares-size : (s : tie.Start) → length {A = ℕ} (take (s .args .m + 1) (replicate 65 0)) ≡ s .args .m + 1
+shares-size s = front-length (s .args .m + 1) 65 (omega (arith, s .pre .0 .0 .few-sites))
+
 array-borrow-prefix-table : tie.Need-array-borrow-prefix-table
-array-borrow-prefix-table c =
-    let a = c .before .before .before .before .args in
-    let p = c .before .before .before .before .pre in
-    omega (arith, table-fits (a .n) (a .m) (a .scores .now) (a .rows .now) (p .0 .0))
+array-borrow-prefix-table c = let p = c .before .before .before .before .pre in omega (arith, street-fits (p .0 .0))
 
 slice-aggregate-fill-values : tie.Need-slice-aggregate-fill-values
-slice-aggregate-fill-values c =
-    let a = c .before .before .before .before .before .args in
-    let p = c .before .before .before .before .before .pre in
-    sym (table-blank (a .n) (a .m) (a .scores .now) (a .rows .now) (p .0 .0) .size)
+slice-aggregate-fill-values c = let p = c .before .before .before .before .before .pre in sym (part-blank (street-fits (p .0 .0)) .size)
 
 fill-values-requires : tie.Need-fill-values-requires
-fill-values-requires c κs =
-    let a = c .before .before .before .before .before .args in
-    let p = c .before .before .before .before .before .pre in
-    (p .0 .0, table-blank (a .n) (a .m) (a .scores .now) (a .rows .now) (p .0 .0))
+fill-values-requires c κs = let p = c .before .before .before .before .before .pre in (p .0 .0, part-blank (street-fits (p .0 .0)))
 
 array-share-prefix-table : tie.Need-array-share-prefix-table
-array-share-prefix-table c =
-    let a = c .before .before .before .before .before .before .before .args in
-    let p = c .before .before .before .before .before .before .before .pre in
-    table-room (a .n) (a .m) (a .scores .now) (a .rows .now) (p .0 .0) _ _ (c .before .fill-values .ensures)
+array-share-prefix-table c = part-room _ (c .before .fill-values .ensures)
 
 slice-aggregate-divide-table : tie.Need-slice-aggregate-divide-table
-slice-aggregate-divide-table c =
-    let a = c .before .before .before .before .before .before .before .before .args in
-    let p = c .before .before .before .before .before .before .before .before .pre in
-    table-size (a .n) (a .m) (a .scores .now) (a .rows .now) (p .0 .0) _ _ (c .before .before .fill-values .ensures)
+slice-aggregate-divide-table c = part-size _ (c .before .before .fill-values .ensures)
 
 slice-aggregate-divide-table-2 : tie.Need-slice-aggregate-divide-table-2
-slice-aggregate-divide-table-2 c =
-    let a = c .before .before .before .before .before .before .before .before .before .before .args in
-    let p = c .before .before .before .before .before .before .before .before .before .before .pre in
-    sym (front-length (a .m + 1) 65 (omega (arith, p .0 .0 .few-sites)))
+slice-aggregate-divide-table-2 c = sym (shares-size (c .before .before .before .before .before .before .before .before .before .before))
 
 slice-aggregate-divide-table-3 : tie.Need-slice-aggregate-divide-table-3
-slice-aggregate-divide-table-3 c =
-    let a = c .before .before .before .before .before .before .before .before .before .before .before .args in
-    let p = c .before .before .before .before .before .before .before .before .before .before .before .pre in
-    sym (front-length (a .m + 1) 65 (omega (arith, p .0 .0 .few-sites)))
+slice-aggregate-divide-table-3 c = sym (shares-size (c .before .before .before .before .before .before .before .before .before .before .before))
 
 divide-table-requires : tie.Need-divide-table-requires
 divide-table-requires c κs =
-    let a = c .before .before .before .before .before .before .before .before .before .before .before .args in
-    let p = c .before .before .before .before .before .before .before .before .before .before .before .pre in
-    ((table-of _ _ _ _ (p .1) (table-ready (a .n) (a .m) (a .scores .now) (a .rows .now) (p .0 .0) _ _ (c .before .before .before .before .before .fill-values .ensures)), shareable-of _ _ _ _ (p .1) (p .0 .1)), (front-length (a .m + 1) 65 (omega (arith, p .0 .0 .few-sites)), front-length (a .m + 1) 65 (omega (arith, p .0 .0 .few-sites)), front-blank (a .m + 1) 65 (omega (arith, p .0 .0 .few-sites))))
+    let i = c .before .before .before .before .before in
+    let a = entry i .args in
+    let p = entry i .pre in
+    let ok = p .0 .0 in (
+      (
+        street-ready ok _ (i .fill-values .ensures) _ (p .1),
+        along (λ (j : ℕ). Shareable j (a .m) (a .sites .now)) (p .1) (p .0 .1),
+      ),
+      (shares-size (entry i), shares-size (entry i), front-blank (a .m + 1) 65 (omega (arith, ok .few-sites))),
+    )
 
 returns : tie.Need-returns
 returns c =
-    let a = c .before .before .before .before .before .before .before .before .before .before .before .before .before .before .before .before .args in
-    let p = c .before .before .before .before .before .before .before .before .before .before .before .before .before .before .before .before .pre in
+    let i = c .before .before .before .before .before .before .before .before .before .before in
+    let p = entry i .pre in
     let t = c .before .before .before .before .divide-table .ensures in
-    as-surveyed (a .n) (a .m) _ (a .sites .now) (p .0 .1) (p .1) _ (value (a .m) (a .scores .now) (a .rows .now)) (table-same (a .n) (a .m) (a .scores .now) (a .rows .now) (p .0 .0) _ _ (c .before .before .before .before .before .before .before .before .before .before .fill-values .ensures)) _ _ (t .0) (t .1)
+    as-surveyed (p .0 .1) _ (p .1) _ _ (street-same (p .0 .0) _ (i .fill-values .ensures)) _ _ (t .0) (t .1)
 
 pub divide-spec : {M : Type 1} → statement M
 divide-spec =

@@ -3,6 +3,7 @@ use borrow.Author.Needs.{needs}
 use mathlib.Core.Path.{_≡_}
 use Prim.Native.Nat.{_-_, _*_, _≤_}
 use native.Mathlib.Omega.{arith}
+use Rattle.counting.specs.Bounds.{mostTotal}
 use Rattle.counting.specs.Words.{sumOf}
 use Rattle.survey.specs.Rows.{scoreAt}
 use Rattle.balanced_plan.specs.Rounds.{evenShare}
@@ -12,7 +13,7 @@ use Rattle.floors.proofs.floor.Statement.{statement}
 use Rattle.floors.proofs.floor.Tie as tie
 
 abbrev Inv-loop : tie.InvT-loop
-Inv-loop n m k scores rows t total₀ i₀ total i = (i ≤ k) × (total ≡ sumOf i (added (evenShare n k) (scoreAt scores) t m k)) × (total ≤ i * 400000)
+Inv-loop n m k scores rows t total₀ i₀ total i = (i ≤ k) × (total ≡ sumOf i (added (evenShare n k) (scoreAt scores) t m k)) × (total ≤ i * mostTotal)
 
 abbrev μ-loop : tie.MeasureT-loop
 μ-loop n m k scores rows t total₀ i₀ total i = k - i

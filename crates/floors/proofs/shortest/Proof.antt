@@ -4,13 +4,13 @@ use mathlib.Core.Path.{_≡_, refl}
 use Prim.Native.Nat.{_-_, _≤_}
 use native.Mathlib.Omega.{arith}
 use Rattle.counting.proofs.Tables.{row-within}
-use Rattle.survey.specs.Rows.{shortest}
+use Rattle.survey.specs.Rows.{shortestOf}
 use Rattle.floors.proofs.FloorSteps.{shortest-next, shortest-end}
 use Rattle.floors.proofs.shortest.Statement.{statement}
 use Rattle.floors.proofs.shortest.Tie as tie
 
 abbrev Inv-loop : tie.InvT-loop
-Inv-loop n m rows least₀ s₀ least s = (s ≤ n) × (least ≡ shortest s m rows)
+Inv-loop n m rows least₀ s₀ least s = (s ≤ n) × (least ≡ shortestOf s m rows)
 
 abbrev μ-loop : tie.MeasureT-loop
 μ-loop n m rows least₀ s₀ least s = n - s

@@ -1,56 +1,55 @@
 -- `free_results::plan` meets its contract. Assumes nothing.
 use borrow.Author.Needs.{needs}
-use mathlib.Core.Path.{sym}
-use Prim.Native.Nat.{ℕ}
+use mathlib.Core.Path.{_≡_, sym}
 use native.Mathlib.Omega.{arith}
-use lib.ListN.{length}
+use lib.ListN.{length, take}
 use lib.Seq.{length-take-le}
 use Rattle.free_results.proofs.Results.{total-ready, total-found, serve-ready, served, copied}
 use Rattle.free_results.proofs.plan.Statement.{statement}
 use Rattle.free_results.proofs.plan.Tie as tie
 
+-- once the rounds are played
+abbrev entry : tie.After-planned → tie.Start
+entry i = i .before .before .before .before .before .before
+
+-- the sites that they chose are as many as their buffer has places
+chosen-size : (i : tie.After-planned) → length (take (length (entry i .args .chosen .now)) (i .planned .result .chosen)) ≡ length (entry i .args .chosen .now)
+chosen-size i =
+    let p = entry i .pre in
+    length-take-le (length (entry i .args .chosen .now)) (i .planned .result .chosen) (omega (arith, i .planned .ensures .1 .chosen-size, p .0 .1, p .0 .0 .few-sites))
+
 planned-requires : tie.Need-planned-requires
 planned-requires c κs =
-    let a = c .before .before .before .before .before .args in
     let p = c .before .before .before .before .before .pre in
     (p .0 .0, (omega (arith, p .0 .1), λ i. omega arith))
 
 serve-requires : tie.Need-serve-requires
 serve-requires c κs =
-    let a = c .before .before .before .before .before .before .before .before .before .before .args in
-    let p = c .before .before .before .before .before .before .before .before .before .before .pre in
-    serve-ready (a .n) (a .m) (a .scores .now) (a .rows .now) (p .0 .0) (c .before .before .before .before .planned .result) (c .before .before .before .before .planned .ensures .1) _ (p .1)
+    let i = c .before .before .before .before in
+    let p = entry i .pre in
+    serve-ready (p .0 .0) (i .planned .ensures .1) _ (p .1)
 
-slice-aggregate-copy : tie.Need-slice-aggregate-copy
-slice-aggregate-copy c =
-    let a = c .before .before .before .before .before .before .before .before .before .before .before .before .before .before .args in
-    let p = c .before .before .before .before .before .before .before .before .before .before .before .before .before .before .pre in
-    let held = c .before .before .before .before .before .before .before .before .planned .ensures .1 in
-    sym (length-take-le (length (a .chosen .now)) (c .before .before .before .before .before .before .before .before .planned .result .chosen) (omega (arith, held .chosen-size, p .0 .1, p .0 .0 .few-sites)))
+slice-aggregate-copy-bytes : tie.Need-slice-aggregate-copy-bytes
+slice-aggregate-copy-bytes c = sym (chosen-size (c .before .before .before .before .before .before .before .before))
 
-copy-requires : tie.Need-copy-requires
-copy-requires c κs =
-    let a = c .before .before .before .before .before .before .before .before .before .before .before .before .before .before .before .args in
-    let p = c .before .before .before .before .before .before .before .before .before .before .before .before .before .before .before .pre in
-    let held = c .before .before .before .before .before .before .before .before .before .planned .ensures .1 in
-    length-take-le (length (a .chosen .now)) (c .before .before .before .before .before .before .before .before .before .planned .result .chosen) (omega (arith, held .chosen-size, p .0 .1, p .0 .0 .few-sites))
+copy-bytes-requires : tie.Need-copy-bytes-requires
+copy-bytes-requires c κs = chosen-size (c .before .before .before .before .before .before .before .before .before)
 
 total-of-requires : tie.Need-total-of-requires
 total-of-requires c κs =
-    let a = c .before .before .before .before .before .before .before .before .before .before .before .before .before .before .before .before .before .before .args in
-    let p = c .before .before .before .before .before .before .before .before .before .before .before .before .before .before .before .before .before .before .pre in
-    total-ready (a .n) (a .m) (a .scores .now) (a .rows .now) (p .0 .0) (c .before .before .before .before .before .before .before .before .before .before .before .before .planned .result) (c .before .before .before .before .before .before .before .before .before .before .before .before .planned .ensures .1)
+    let i = c .before .before .before .before .before .before .before .before .before .before .before .before in
+    total-ready (entry i .pre .0 .0) (i .planned .ensures .1)
 
 returns : tie.Need-returns
 returns c =
-    let a = c .before .before .before .before .before .before .before .before .before .before .before .before .before .before .before .before .before .before .before .args in
-    let p = c .before .before .before .before .before .before .before .before .before .before .before .before .before .before .before .before .before .before .before .pre in
-    let t = c .before .before .before .before .before .before .before .before .before .before .before .before .before .planned .ensures in
-    let k : ℕ = length (a .chosen .now) in (
-      total-found (a .n) (a .m) (a .scores .now) (a .rows .now) (p .0 .0) (c .before .before .before .before .before .before .before .before .before .before .before .before .before .planned .result) (c .before .before .before .before .before .before .before .before .before .before .before .before .before .planned .ensures .1) _ (t .0 .1) _ (c .total-of .ensures),
+    let i = c .before .before .before .before .before .before .before .before .before .before .before .before .before in
+    let p = entry i .pre in
+    let e = i .planned .ensures in
+    let size : i .planned .result .count ≡ length (entry i .args .chosen .now) = omega (arith, e .0 .0) in (
+      total-found (p .0 .0) (e .1) (e .0 .1) (c .total-of .ensures),
       (
-        served (a .n) (a .m) (a .scores .now) (a .rows .now) (p .0 .0) (c .before .before .before .before .before .before .before .before .before .before .before .before .before .planned .result) (c .before .before .before .before .before .before .before .before .before .before .before .before .before .planned .ensures .1) _ (t .0 .1) _ _ (p .1) (c .before .before .before .before .before .before .before .before .serve .ensures),
-        copied (a .n) (a .m) (a .scores .now) (a .rows .now) (p .0 .0) (c .before .before .before .before .before .before .before .before .before .before .before .before .before .planned .result) (c .before .before .before .before .before .before .before .before .before .before .before .before .before .planned .ensures .1) _ (t .0 .1) k _ (omega (arith, t .0 .0)) (c .before .before .before .copy .ensures),
+        served (p .0 .0) (e .1) (e .0 .1) (p .1) (c .before .before .before .before .before .before .before .before .serve .ensures),
+        copied (p .0 .0) (e .1) (e .0 .1) size (c .before .before .before .copy-bytes .ensures),
       ),
     )
 
@@ -64,8 +63,8 @@ plan-spec =
     (λ c. search needs)
     serve-requires
     (λ c. search needs)
-    slice-aggregate-copy
-    copy-requires
+    slice-aggregate-copy-bytes
+    copy-bytes-requires
     total-of-requires
     (λ c. search needs)
     (λ c. search needs)

@@ -5,7 +5,7 @@ use mathlib.Core.List.{List, [], _∷_, _++_}
 use Prim.Native.Nat.{ℕ, _≤_, _-_, _+_}
 use native.Mathlib.Omega.{arith}
 use lib.ListN.{length}
-use Rattle.site_values.specs.Table.{siteValue}
+use Rattle.tables.specs.Tables.{siteValue}
 use Rattle.free_plan.specs.Greedy.{pick, greedy}
 use Rattle.free_plan.proofs.Sites.{greedy-next}
 use Rattle.free_rounds.specs.Held.{Held, Bounds, sitesOf}
@@ -14,10 +14,15 @@ use Rattle.free_rounds.proofs.rounds.Tie as tie
 
 abbrev Inv-loop : tie.InvT-loop
 Inv-loop values n m sites k state₀ i₀ state i =
-    (i ≤ k) × (state .count ≡ length sites + i) × (sitesOf state ≡ greedy (siteValue values n) n m i sites) × Held (siteValue values n) n state × Bounds (siteValue values n) n state
+    (i ≤ k) × (state .count ≡ length sites + i) × (sitesOf state ≡ greedy (siteValue values n) n m i sites) × Held (siteValue values n) n state
+    × Bounds (siteValue values n) n state
 
 abbrev μ-loop : tie.MeasureT-loop
 μ-loop values n m sites k state₀ i₀ state i = k - i
+
+-- the start, from the head of the loop
+abbrev start : tie.At-loop Inv-loop μ-loop → tie.Start Inv-loop μ-loop
+start h = h .before .before .before .before
 
 taken-requires : tie.Need-taken-requires Inv-loop μ-loop
 taken-requires c κs = let p = c .before .before .pre in (p .0, (omega (arith, p .1 .0, p .0 .few-sites), p .1 .1))
@@ -26,11 +31,14 @@ loop-holds : tie.Need-loop-holds Inv-loop μ-loop
 loop-holds c = let t = c .taken .ensures in (omega arith, omega (arith, t .0 .0), t .0 .1, t .1 .0, t .1 .1)
 
 round-requires : tie.Need-round-requires Inv-loop μ-loop
-round-requires c κs = let l = c .before .loop in let p = c .before .before .before .before .before .pre in (p .0, ((l .inv .3, l .inv .4), omega (arith, l .inv .1, p .1 .0)))
+round-requires c κs =
+    let i = c .before .loop .inv in
+    let p = start (c .before) .pre in
+    (p .0, ((i .3, i .4), omega (arith, i .1, p .1 .0)))
 
 loop-again : tie.Need-loop-again Inv-loop μ-loop
 loop-again c =
-    let a = c .before .before .before .before .before .before .args in
+    let a = start (c .before .before) .args in
     let l = c .before .before .loop in
     let t = c .round .ensures in
     let v = siteValue (a .values .now) (a .n) in (
@@ -43,7 +51,7 @@ loop-again c =
 
 returns : tie.Need-returns Inv-loop μ-loop
 returns c =
-    let a = c .before .before .before .before .before .args in
+    let a = start (c .before) .args in
     let l = c .before .loop in
     let e : l .i ≡ a .k = omega arith in
     ((omega (arith, l .inv .1), l .inv .2 ∙ ap (λ (x : ℕ). greedy (siteValue (a .values .now) (a .n)) (a .n) (a .m) x (a .sites .now)) e), l .inv .3)

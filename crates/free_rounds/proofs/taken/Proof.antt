@@ -5,7 +5,7 @@ use mathlib.Core.List.{List, _∷_, [], _++_}
 use Prim.Native.Nat.{ℕ, _≤_, _-_, _+_}
 use native.Mathlib.Omega.{arith}
 use lib.ListN.{length, take, getD}
-use Rattle.site_values.specs.Table.{siteValue}
+use Rattle.tables.specs.Tables.{siteValue}
 use Rattle.free_rounds.specs.Held.{Held, Bounds, sitesOf}
 use Rattle.free_rounds.proofs.Rounded.{start-holds}
 use Rattle.counting.proofs.Sums.{take-next}
@@ -15,10 +15,15 @@ use Rattle.free_rounds.proofs.taken.Tie as tie
 
 abbrev Inv-loop : tie.InvT-loop
 Inv-loop values n m sites state₀ i₀ i-end state i =
-    (i ≤ i-end) × (i-end ≡ length sites) × (state .count ≡ i) × (sitesOf state ≡ take i sites) × Held (siteValue values n) n state × Bounds (siteValue values n) n state
+    (i ≤ i-end) × (i-end ≡ length sites) × (state .count ≡ i) × (sitesOf state ≡ take i sites) × Held (siteValue values n) n state
+    × Bounds (siteValue values n) n state
 
 abbrev μ-loop : tie.MeasureT-loop
 μ-loop values n m sites state₀ i₀ i-end state i = i-end - i
+
+-- the start, from the head of the loop
+abbrev start : tie.At-loop Inv-loop μ-loop → tie.Start Inv-loop μ-loop
+start h = h .before .before .before .before
 
 loop-holds : tie.Need-loop-holds Inv-loop μ-loop
 loop-holds c =
@@ -30,12 +35,12 @@ loop-holds c =
 taking-requires : tie.Need-taking-requires Inv-loop μ-loop
 taking-requires c κs =
     let l = c .before .before .loop in
-    let p = c .before .before .before .before .before .before .pre in
+    let p = start (c .before .before) .pre in
     (p .0, ((l .inv .4, l .inv .5), (p .1 .1 (l .i), omega (arith, l .inv .2, p .1 .0))))
 
 loop-again : tie.Need-loop-again Inv-loop μ-loop
 loop-again c =
-    let sites = c .before .before .before .before .before .before .before .args .sites .now in
+    let sites = start (c .before .before .before) .args .sites .now in
     let l = c .before .before .before .loop in
     let t = c .taking .ensures in (
       omega arith,
@@ -48,7 +53,7 @@ loop-again c =
 
 returns : tie.Need-returns Inv-loop μ-loop
 returns c =
-    let sites = c .before .before .before .before .before .args .sites .now in
+    let sites = start (c .before) .args .sites .now in
     let l = c .before .loop in
     ((omega (arith, l .inv .2), l .inv .3 ∙ take-all (l .i) sites (omega arith)), (l .inv .4, l .inv .5))
 

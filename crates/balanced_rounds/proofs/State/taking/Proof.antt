@@ -1,89 +1,62 @@
 -- `balanced_rounds::State::taking` meets its contract. Assumes nothing.
 use borrow.Author.Needs.{needs}
 use native.Mathlib.Omega.{arith}
-use mathlib.Core.Path.{refl, sym}
+use mathlib.Core.Path.{_≡_, refl, sym}
+use mathlib.Core.List.{List}
+use Prim.Native.Nat.{ℕ, _+_, _*_, _≤_}
+use lib.ListN.{length, take}
 use lib.Seq.{length-take-le}
-use Rattle.survey.proofs.BySite.{table-small}
-use Rattle.balanced_rounds.proofs.Rounding.{line-ends, line-of, held-more, taken-more}
+use Rattle.counting.specs.Bounds.{mostEntries}
+use Rattle.balanced_rounds.proofs.Rounding.{line-fits, line-of, Given, held-more, taken-more}
 use Rattle.balanced_rounds.proofs.State.taking.Statement.{statement}
 use Rattle.balanced_rounds.proofs.State.taking.Tie as tie
 
-mul-from : tie.Need-mul-from
-mul-from c =
-    let a = c .before .args in
-    let p = c .before .pre in
-    let ends = line-ends (a .n) (a .m) (a .orders .now) (p .0 .0) (a .site) (p .1 .2) in
-    let size = p .0 .0 .size in
-    let few = table-small (a .n) (a .m) (p .0 .1) (p .1 .3) in
-    omega (arith, ends, size, few)
+-- the site's line lies in the table
+fits : (s : tie.Start) → let a = s .args in (a .site * a .n + a .n ≤ length (a .orders .now)) × (length (a .orders .now) ≤ mostEntries)
+fits s = let p = s .pre in line-fits (p .0 .0) (p .1 .2) (p .0 .1) (p .1 .3)
 
-add-to : tie.Need-add-to
-add-to c =
-    let a = c .before .args in
-    let p = c .before .pre in
-    let ends = line-ends (a .n) (a .m) (a .orders .now) (p .0 .0) (a .site) (p .1 .2) in
-    let size = p .0 .0 .size in
-    let few = table-small (a .n) (a .m) (p .0 .1) (p .1 .3) in
-    omega (arith, ends, size, few)
+-- the division that is lent is as long as the town has streets
+whole : (s : tie.Start) → length (take (s .args .n) (s .args .t1 .division)) ≡ s .args .n
+whole s = length-take-le (s .args .n) (s .args .t1 .division) (omega (arith, s .pre .0 .1, s .pre .1 .0 .division-size))
 
-mul-give-lot : tie.Need-mul-give-lot
-mul-give-lot c =
-    let a = c .before .before .before .args in
-    let p = c .before .before .before .pre in
-    let ends = line-ends (a .n) (a .m) (a .orders .now) (p .0 .0) (a .site) (p .1 .2) in
-    let size = p .0 .0 .size in
-    let few = table-small (a .n) (a .m) (p .0 .1) (p .1 .3) in
-    omega (arith, ends, size, few)
+-- the places: the copies of the division, and the streets given
+abbrev start : tie.After-division → tie.Start
+start d = d .before .before .before
 
-part-give-lot-end : tie.Need-part-give-lot-end
-part-give-lot-end c =
-    let a = c .before .before .before .args in
-    let p = c .before .before .before .pre in
-    let ends = line-ends (a .n) (a .m) (a .orders .now) (p .0 .0) (a .site) (p .1 .2) in
-    let size = p .0 .0 .size in
-    let few = table-small (a .n) (a .m) (p .0 .1) (p .1 .3) in
-    omega (arith, ends, size, few)
+abbrev copied : tie.After-division2 → tie.After-division
+copied l = l .before .before .before
 
-slice-aggregate-give-lot : tie.Need-slice-aggregate-give-lot
-slice-aggregate-give-lot c =
-    let a = c .before .before .before .before .before .args in
-    let p = c .before .before .before .before .before .pre in
-    sym (length-take-le (a .n) (a .t1 .division) (omega (arith, p .0 .1, p .1 .0 .division-size)))
+abbrev new : tie.After-give-lot → List ℕ
+new g = g .give-lot .last .1 .1 .0
 
-slice-aggregate-give-lot-2 : tie.Need-slice-aggregate-give-lot-2
-slice-aggregate-give-lot-2 c =
-    let a = c .before .before .before .before .before .before .args in
-    let p = c .before .before .before .before .before .before .pre in
-    sym (length-take-le (a .n) (a .t1 .division) (omega (arith, p .0 .1, p .1 .0 .division-size)))
+given : (g : tie.After-give-lot) → let a = start (copied (g .before)) .args in Given (a .n) (a .m) (a .t1) (a .site) (new g)
+given g =
+    let p = start (copied (g .before)) .pre in
+    record { well = p .1 .0; room = p .1 .1; low = p .1 .2; few-sites = p .1 .3; few-streets = p .0 .1; size = g .give-lot .kept .1 .1 .0 }
 
 give-lot-requires : tie.Need-give-lot-requires
-give-lot-requires c κs =
-    let a = c .before .before .before .before .before .before .args in
-    let p = c .before .before .before .before .before .before .pre in
-    let e = length-take-le (a .n) (a .t1 .division) (omega (arith, p .0 .1, p .1 .0 .division-size)) in
-    (line-of (a .n) (a .m) (a .orders .now) (p .0 .0) (a .site) (p .1 .2) _ e (p .0 .1), refl)
+give-lot-requires c κs = let s = start (copied c) in (line-of (s .pre .0 .0) (s .pre .1 .2) (whole s) (s .pre .0 .1), refl)
 
 returns : tie.Need-returns
 returns c =
-    let a = c .before .before .before .before .before .before .before .before .args in
-    let p = c .before .before .before .before .before .before .before .before .pre in
-    let g = c .before .give-lot in
-    ((held-more (a .n) (a .m) (a .q) (a .t1) (a .site) (g .last .1 .1 .0) (p .1 .0) (p .1 .1) (p .1 .2) (p .1 .3) (p .0 .1) (g .kept .1 .1 .0), refl), λ key o. taken-more (a .n) (a .m) (a .q) (a .t1) (a .site) (g .last .1 .1 .0) (p .1 .0) (p .1 .1) (p .1 .2) (p .1 .3) (p .0 .1) (g .kept .1 .1 .0) key (a .orders .now) o (g .ensures))
+    let g = c .before in
+    let a = start (copied (g .before)) .args in
+    ((held-more (given g), refl), λ key o. taken-more (given g) (a .q) key (a .orders .now) o (g .give-lot .ensures))
 
 pub taking-spec : {M : Type 1} → statement M
 taking-spec =
     tie.close
     (tie.spec
-    mul-from
-    add-to
-    mul-give-lot
+    (λ c. let f = fits (c .before) in omega (arith, f .0, f .1))
+    (λ c. let f = fits (c .before) in omega (arith, f .0, f .1))
+    (λ c. let f = fits (start c) in omega (arith, f .0, f .1))
     (λ c. search needs)
     (λ c. search needs)
-    part-give-lot-end
+    (λ c. let f = fits (start c) in omega (arith, f .0, f .1))
     (λ c. search needs)
-    slice-aggregate-give-lot
+    (λ c. sym (whole (start (c .before .before))))
     (λ c. search needs)
-    slice-aggregate-give-lot-2
+    (λ c. sym (whole (start (copied c))))
     give-lot-requires
     (λ c. search needs)
     (λ c. search needs)

@@ -1,5 +1,4 @@
 -- `balanced_rounds::walks::times` meets its contract. Assumes nothing.
-use borrow.Author.Needs.{needs}
 use native.Mathlib.Omega.{arith}
 use Rattle.balanced_rounds.proofs.Walked.{once-le, once-all, once-none}
 use Rattle.balanced_rounds.proofs.walks.times.Statement.{statement}

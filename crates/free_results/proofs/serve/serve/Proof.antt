@@ -7,7 +7,7 @@ use lib.ListN.{length, getD}
 use mathlib.Core.Bool.{false}
 use Rattle.counting.specs.Buffers.{Mapped}
 use Rattle.counting.proofs.Filling.{mapped-none, mapped-more, mapped-end, mapped-listOf}
-use Rattle.survey.specs.Rows.{listOfStreet}
+use Rattle.survey.specs.Rows.{rowAt, rankedPart}
 use Rattle.counting.proofs.Tables.{row-within}
 use Rattle.free_plan.specs.Greedy.{goesTo}
 use Rattle.free_results.proofs.serve.serve.Statement.{statement}
@@ -16,7 +16,7 @@ use Rattle.free_results.proofs.serve.serve.Tie as tie
 abbrev Inv-loop : tie.InvT-loop
 Inv-loop rows m flags division₀ s₀ s-end division s =
     (s ≤ s-end) × (s-end ≡ length division₀)
-    × Mapped (λ t x. goesTo (λ a. getD flags a false) (listOfStreet m rows t)) division₀ division s
+    × Mapped (λ t x. goesTo (λ a. getD flags a false) (rankedPart (rowAt m rows t))) division₀ division s
 
 abbrev μ-loop : tie.MeasureT-loop
 μ-loop rows m flags division₀ s₀ s-end division s = s-end - s

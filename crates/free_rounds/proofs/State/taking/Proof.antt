@@ -1,67 +1,48 @@
 -- `free_rounds::State::taking` meets its contract. Assumes nothing.
 use borrow.Author.Needs.{needs}
-use mathlib.Core.Path.{refl, sym, _∙_}
-use mathlib.Core.List.{_++_}
-use Prim.Native.Nat.{_+_, _*_}
+use mathlib.Core.Path.{_≡_, refl, sym, _∙_}
+use Prim.Native.Nat.{_+_, _*_, _≤_, _<_}
 use native.Mathlib.Omega.{arith}
+use lib.ListN.{length, take}
+use Rattle.counting.specs.Bounds.{mostEntries}
 use Rattle.counting.proofs.Parts.{part}
-use lib.ListN.{drop}
 use Rattle.free_rounds.proofs.Rounded.{held-more, bounds-more, sites-more}
 use Rattle.free_rounds.proofs.RoundLoops.{row-ends, row-length, row-at}
-use Rattle.site_values.specs.Table.{siteValue}
 use lib.Seq.{length-take-le}
 use Rattle.free_rounds.proofs.State.taking.Statement.{statement}
 use Rattle.free_rounds.proofs.State.taking.Tie as tie
 
-mul-from : tie.Need-mul-from
-mul-from c =
-    let a = c .before .args in
-    let e = row-ends (a .n) (a .m) (a .site) (a .values .now) (c .before .pre .0) (c .before .pre .1 .1 .0) in
-    omega arith
+-- the site's row ends within the table, which is not long
+fits : (s : tie.Start) → let a = s .args in (a .site * a .n + a .n ≤ length (a .values .now)) × (length (a .values .now) ≤ mostEntries)
+fits s = row-ends (s .pre .0) (s .pre .1 .1 .0)
 
-add-to : tie.Need-add-to
-add-to c =
-    let a = c .before .args in
-    let e = row-ends (a .n) (a .m) (a .site) (a .values .now) (c .before .pre .0) (c .before .pre .1 .1 .0) in
-    omega arith
+-- the bests that are lent are as many as the town has streets
+whole : (s : tie.Start) → length (take (s .args .n) (s .args .t1 .bests)) ≡ s .args .n
+whole s = length-take-le (s .args .n) (s .args .t1 .bests) (omega (arith, s .pre .0 .few-streets, s .pre .1 .0 .0 .bests-size))
 
-slice-aggregate-raise : tie.Need-slice-aggregate-raise
-slice-aggregate-raise c =
-    let a = c .before .before .before .args in
-    let p = c .before .before .before .pre in
-    sym (length-take-le (a .n) (a .t1 .bests) (omega (arith, p .0 .few-streets, p .1 .0 .0 .bests-size)))
+-- the start, from the bests lent
+abbrev start : tie.After-bests2 → tie.Start
+start b = b .before .before .before
 
-mul-raise : tie.Need-mul-raise
-mul-raise c =
-    let a = c .before .before .before .args in
-    let p = c .before .before .before .pre in
-    let e = row-ends (a .n) (a .m) (a .site) (a .values .now) (p .0) (p .1 .1 .0) in
-    omega arith
-
-part-raise-end : tie.Need-part-raise-end
-part-raise-end c =
-    let a = c .before .before .before .args in
-    let p = c .before .before .before .pre in
-    let e = row-ends (a .n) (a .m) (a .site) (a .values .now) (p .0) (p .1 .1 .0) in
-    omega arith
+abbrev raising : tie.After-bests3 → tie.After-bests2
+raising c = c .before .before .before
 
 raise-requires : tie.Need-raise-requires
-raise-requires c κs =
-    let a = c .before .before .before .before .args in
-    let p = c .before .before .before .before .pre in
-    let whole = length-take-le (a .n) (a .t1 .bests) (omega (arith, p .0 .few-streets, p .1 .0 .0 .bests-size)) in
-    row-length (a .n) (a .m) (a .site) (a .values .now) (p .0) (p .1 .1 .0) ∙ sym whole
+raise-requires c κs = let s = start (c .before) in row-length (s .pre .0) (s .pre .1 .1 .0) ∙ sym (whole s)
 
 returns : tie.Need-returns
 returns c =
-    let a = c .before .before .before .before .before .before .args in
-    let p = c .before .before .before .before .before .before .pre in
-    let v = siteValue (a .values .now) (a .n) in
+    let a = start (raising c) .args in
+    let p = start (raising c) .pre in
+    let held = p .1 .0 .0 in
+    let room = p .1 .1 .1 in
     let row = part (a .site * a .n) (a .site * a .n + a .n) (a .values .now) in
-    let raised = c .before .raise .last .0 in
-    let bests = raised ++ drop (a .n) (a .t1 .bests) in (
-      (refl, sites-more v (a .n) (a .t1) (a .site) bests (p .1 .0 .0) (p .1 .1 .1)),
-      (held-more v (a .n) (a .t1) (a .site) row raised bests (p .1 .0 .0) (p .1 .1 .1) (omega (arith, p .1 .1 .0, p .0 .few-sites)) (p .0 .few-streets) (row-at (a .n) (a .m) (a .site) (a .values .now) (p .0) (p .1 .1 .0)) (c .before .raise .ensures) refl, bounds-more v (a .n) (a .t1) (a .site) bests (p .1 .0 .0) (p .1 .1 .1) (p .1 .0 .1)),
+    let low : a .site < 256 = omega (arith, p .1 .1 .0, p .0 .few-sites) in (
+      (refl, sites-more held room (a .site)),
+      (
+        held-more held room (a .site) row low (p .0 .few-streets) (row-at (p .0) (p .1 .1 .0)) (c .before .raise .ensures),
+        bounds-more held room (a .site) (p .1 .0 .1),
+      ),
     )
 
 pub taking-spec : {M : Type 1} → statement M
@@ -71,13 +52,13 @@ taking-spec =
     (λ c. search needs)
     (λ c. search needs)
     (λ c. search needs)
-    mul-from
-    add-to
+    (λ c. let e = fits (c .before) in omega arith)
+    (λ c. let e = fits (c .before) in omega arith)
     (λ c. search needs)
-    slice-aggregate-raise
-    mul-raise
+    (λ c. sym (whole (start c)))
+    (λ c. let e = fits (start c) in omega arith)
     (λ c. search needs)
     (λ c. search needs)
-    part-raise-end
+    (λ c. let e = fits (start c) in omega arith)
     raise-requires
     returns)

@@ -20,7 +20,9 @@ loop-holds : tie.Need-loop-holds Inv-loop μ-loop
 loop-holds c = (search needs, refl, mapped-none _ _)
 
 loop-again : tie.Need-loop-again Inv-loop μ-loop
-loop-again c = let l = c .before .before .before .before .loop in (omega arith, refl, mapped-more _ _ (l .bests) (l .s) _ (omega arith) (l .inv .2) (c .greater .ensures))
+loop-again c =
+    let l = c .before .before .before .before .loop in
+    (omega arith, refl, mapped-more _ _ (l .bests) (l .s) _ (omega arith) (l .inv .2) (c .greater .ensures))
 
 returns : tie.Need-returns Inv-loop μ-loop
 returns c = let l = c .before .loop in mapped-end _ _ _ (l .s) _ (omega arith) (omega arith) (l .inv .2)

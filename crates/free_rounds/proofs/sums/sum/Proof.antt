@@ -17,22 +17,28 @@ Inv-loop bests total₀ s₀ s-end total s = (s ≤ s-end) × (s-end ≡ length 
 abbrev μ-loop : tie.MeasureT-loop
 μ-loop bests total₀ s₀ s-end total s = s-end - s
 
+-- the places: the start, the head of the loop, and a street more
+abbrev start : tie.At-loop Inv-loop μ-loop → tie.Start Inv-loop μ-loop
+start h = h .before .before
+
+abbrev head : tie.After-wide Inv-loop μ-loop → tie.At-loop Inv-loop μ-loop
+head w = w .before .before .before
+
 loop-holds : tie.Need-loop-holds Inv-loop μ-loop
 loop-holds c = (search needs, refl, refl, search needs)
 
 add-total : tie.Need-add-total Inv-loop μ-loop
-add-total c = let l = c .before .before .before .loop in omega (arith, c .wide .ensures, c .before .before .before .before .before .pre .0 (l .s))
+add-total c = omega (arith, c .wide .ensures, start (head c) .pre .0 (head c .loop .s))
 
 loop-again : tie.Need-loop-again Inv-loop μ-loop
 loop-again c =
-    let l = c .before .before .before .loop in
-    let p = c .before .before .before .before .before .pre in
-    (omega arith, refl, sum-turn _ (l .s) _ _ (l .inv .2) (c .wide .ensures), omega (arith, c .wide .ensures, p .0 (l .s)))
+    let l = head c .loop in
+    (omega arith, refl, sum-turn _ (l .s) _ _ (l .inv .2) (c .wide .ensures), omega (arith, c .wide .ensures, start (head c) .pre .0 (l .s)))
 
 returns : tie.Need-returns Inv-loop μ-loop
 returns c =
     let l = c .before .loop in
-    let a = c .before .before .before .args in
+    let a = start (c .before) .args in
     sum-end (at (a .bests .now)) (l .s) (length (a .bests .now)) _ (omega arith) (omega arith) (l .inv .2)
 
 pub sum-spec : {M : Type 1} → statement M

@@ -4,6 +4,7 @@ use mathlib.Core.Path.{_≡_, refl, _∙_}
 use Prim.Native.Nat.{_≤_, _-_, _+_, max}
 use native.Mathlib.Omega.{arith}
 use lib.ListN.{length}
+use Rattle.counting.specs.Bounds.{mostTotal}
 use Rattle.counting.specs.Words.{sumOf}
 use Rattle.counting.proofs.Sums.{sum-end}
 use Rattle.counting.specs.Lists.{at}
@@ -18,28 +19,38 @@ Inv-loop bests row n raised₀ from₀ raised from =
 abbrev μ-loop : tie.MeasureT-loop
 μ-loop bests row n raised₀ from₀ raised from = n - from
 
+-- the places: the head of the loop, and the end of a part
+abbrev Head : Type 0
+Head = tie.At-loop Inv-loop μ-loop
+
+abbrev End : Type 0
+End = tie.After-part-end Inv-loop μ-loop
+
+abbrev start : Head → tie.Start Inv-loop μ-loop
+start h = h .before .before .before
+
+abbrev head : End → Head
+head e = e .before .before
+
+abbrev end : tie.After-wide Inv-loop μ-loop → End
+end w = w .before .before .before .before
+
 loop-holds : tie.Need-loop-holds Inv-loop μ-loop
 loop-holds c = (search needs, refl, refl)
 
 part-requires : tie.Need-part-requires Inv-loop μ-loop
 part-requires c κs =
-    let a = c .before .before .before .before .before .before .before .args in
-    part-ready (c .before .before .before .before .loop .from) _ (a .bests .now) (a .row .now) (c .before .before .before .before .before .before .before .pre) (c .before .before .part-end .ensures)
+    let e = c .before .before in
+    part-ready (start (head e) .pre) (head e .loop .from) (e .part-end .ensures)
 
 -- after a part: the streets up to its end are summed, which is not great
-summed : (c : tie.After-wide Inv-loop μ-loop) →
-    let a = c .before .before .before .before .before .before .before .before .before .args in
-    let x = c .before .before .before .before .before .before .loop .raised + c .wide .result in
-    (x ≡ sumOf (c .before .before .before .before .part-end .result) (λ s. max (at (a .bests .now) s) (at (a .row .now) s))) × (x ≤ 400000)
-summed c =
-    let a = c .before .before .before .before .before .before .before .before .before .args in
-    let p = c .before .before .before .before .before .before .before .before .before .pre in
-    let l = c .before .before .before .before .before .before .loop in
-    part-turn (l .from) _ (a .bests .now) (a .row .now) p (c .before .before .before .before .part-end .ensures) (l .raised) _ (omega arith) (l .inv .2)
-    (c .wide .ensures ∙ c .before .part .ensures)
-
-add-raised : tie.Need-add-raised Inv-loop μ-loop
-add-raised c = let q = summed c in omega arith
+summed : (w : tie.After-wide Inv-loop μ-loop) →
+    let a = start (head (end w)) .args in
+    let x = head (end w) .loop .raised + w .wide .result in
+    (x ≡ sumOf (end w .part-end .result) (λ s. max (at (a .bests .now) s) (at (a .row .now) s))) × (x ≤ mostTotal)
+summed w =
+    let l = head (end w) .loop in
+    part-turn (start (head (end w)) .pre) (l .from) (end w .part-end .ensures) (omega arith) (l .inv .2) (w .wide .ensures ∙ w .before .part .ensures)
 
 loop-again : tie.Need-loop-again Inv-loop μ-loop
 loop-again c = (search needs, refl, summed c .0)
@@ -47,7 +58,7 @@ loop-again c = (search needs, refl, summed c .0)
 returns : tie.Need-returns Inv-loop μ-loop
 returns c =
     let l = c .before .loop in
-    let a = c .before .before .before .before .args in
+    let a = start (c .before) .args in
     sum-end (λ s. max (at (a .bests .now) s) (at (a .row .now) s)) (l .from) (length (a .bests .now)) _ (omega arith) (omega arith) (l .inv .2)
 
 pub sum-with-spec : {M : Type 1} → statement M
@@ -68,7 +79,7 @@ sum-with-spec =
     (λ c. search needs)
     part-requires
     (λ c κs. search needs)
-    add-raised
+    (λ c. let q = summed c in omega arith)
     (λ c. search needs)
     loop-again
     returns)

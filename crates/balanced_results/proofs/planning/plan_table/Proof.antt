@@ -1,0 +1,106 @@
+-- `balanced_results::planning::plan_table` meets its contract. Assumes nothing.
+use borrow.Author.Needs.{needs}
+use mathlib.Core.Path.{_≡_, sym, ap, _∙_}
+use Prim.Native.Nat.{ℕ}
+use native.Mathlib.Omega.{arith}
+use lib.ListN.{length, take}
+use lib.Seq.{length-take-le}
+use Rattle.counting.proofs.Equations.{along}
+use Rattle.tables.specs.Tables.{StreetTable, valueIn}
+use Rattle.division.specs.Shares.{divisionTotal}
+use Rattle.balanced_plan.specs.Rounds as plan
+use Rattle.balanced_results.specs.Plans.{dividedBy, rowKey, roundsBy}
+use Rattle.balanced_results.proofs.SurveyRounds.{rounds-ready, state-sites, state-division}
+use Rattle.balanced_results.proofs.planning.plan_table.Statement.{statement}
+use Rattle.balanced_results.proofs.planning.plan_table.Tie as tie
+
+-- ---- once the rounds are played
+abbrev entry : tie.After-play → tie.Start
+entry i = i .before .before .before .before .before .before
+
+-- how many streets and sites there are
+abbrev streets : tie.After-play → ℕ
+streets i = length (entry i .args .division .now)
+
+abbrev count : tie.After-play → ℕ
+count i = length (entry i .args .chosen .now)
+
+-- the state after the rounds
+abbrev end : tie.After-play → plan.State
+end i = let a = entry i .args in roundsBy (valueIn (a .values .now) (a .m)) (streets i) (a .m) (count i) (a .rows .now)
+
+-- the rounds' lists fill the buffers
+sites-size : (i : tie.After-play) → length (take (count i) (i .play .result .chosen)) ≡ count i
+sites-size i =
+    let p = entry i .pre in
+    length-take-le (count i) (i .play .result .chosen) (omega (arith, i .play .ensures .0 .0 .chosen-size, p .1 .0 .1, p .0 .0 .few-sites))
+
+division-size : (i : tie.After-play) → length (take (streets i) (i .play .result .division)) ≡ streets i
+division-size i =
+    length-take-le (streets i) (i .play .result .division) (omega (arith, i .play .ensures .0 .0 .division-size, entry i .pre .0 .0 .few-streets))
+
+-- ---- once both are copied
+abbrev played : tie.After-copy-bytes2 → tie.After-play
+played i = i .before .before .before .before .before .before .before .before .before .before
+
+-- the sites and the division are those after the rounds
+chosen : (i : tie.After-copy-bytes2) → i .before .before .before .before .before .copy-bytes .last .1 .0 ≡ end (played i) .chosen
+chosen i =
+    let p = played i .play in
+    i .before .before .before .before .before .copy-bytes .ensures
+    ∙ state-sites (streets (played i)) (count (played i)) (p .result) _ (p .ensures .0 .1) (p .ensures .1)
+
+division : (i : tie.After-copy-bytes2) → i .copy-bytes2 .last .1 .0 ≡ end (played i) .division
+division i = let p = played i .play in i .copy-bytes2 .ensures ∙ state-division (streets (played i)) (p .result) _ (p .ensures .1)
+
+slice-aggregate-copy-bytes : tie.Need-slice-aggregate-copy-bytes
+slice-aggregate-copy-bytes c = sym (sites-size (c .before .before .before))
+
+copy-bytes-requires : tie.Need-copy-bytes-requires
+copy-bytes-requires c κs = sites-size (c .before .before .before .before)
+
+slice-aggregate-copy-bytes-2 : tie.Need-slice-aggregate-copy-bytes-2
+slice-aggregate-copy-bytes-2 c = sym (division-size (c .before .before .before .before .before .before .before .before))
+
+copy-bytes-requires-2 : tie.Need-copy-bytes-requires-2
+copy-bytes-requires-2 c κs = division-size (c .before .before .before .before .before .before .before .before .before)
+
+improve-requires : tie.Need-improve-requires
+improve-requires c κs =
+    let i = c .before .before .before .before .before in
+    let a = entry (played i) .args in
+    let p = entry (played i) .pre in
+    let same = i .copy-bytes2 .kept .1 .0 in
+    let ready =
+    rounds-ready (valueIn (a .values .now) (a .m)) (rowKey (a .m) (a .rows .now)) (streets (played i)) (a .m) (count (played i)) (p .1 .0 .1) (p .1 .0 .2)
+    (p .1 .0 .0) _ _ same (chosen i) (division i) in
+    ((along (λ (j : ℕ). StreetTable j (a .m) (a .values .now)) same (p .0 .0), ready .0), (p .1 .1, ready .1))
+
+returns : tie.Need-returns
+returns c =
+    let i = c .before .before .before .before .before .before .before .before .before .before in
+    let a = entry (played i) .args in
+    let v = valueIn (a .values .now) (a .m) in
+    let same = i .copy-bytes2 .kept .1 .0 in
+    let best = c .before .before .before .before .improve .ensures in
+    let sites = i .before .before .before .before .before .copy-bytes .last .1 .0 in (
+      best .0 ∙ ap (λ (j : ℕ). divisionTotal v (dividedBy v j (a .m) sites)) same,
+      (best .1 ∙ ap (λ (j : ℕ). dividedBy v j (a .m) sites) same, chosen i),
+    )
+
+pub plan-table-spec : {M : Type 1} → statement M
+plan-table-spec =
+    tie.close
+    (tie.spec
+    (λ c κs. search needs)
+    (λ c. search needs)
+    slice-aggregate-copy-bytes
+    copy-bytes-requires
+    (λ c. search needs)
+    slice-aggregate-copy-bytes-2
+    copy-bytes-requires-2
+    improve-requires
+    (λ c. search needs)
+    (λ c. search needs)
+    (λ c. search needs)
+    returns)
