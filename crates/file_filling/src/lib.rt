@@ -3,9 +3,12 @@ use file_reader::fields;
 ghost use mathlib.Core.Path.{_≡_};
 ghost use Prim.Native.Nat.{_+_, _*_, _≤_};
 ghost use lib.ListN.{length, take, drop};
+ghost use Rattle.counting.specs.Bounds.{mostSites, mostRows};
 ghost use Rattle.counting.specs.Lists.{at};
-ghost use Rattle.counting.specs.Buffers.{Mapped, laid};
-ghost use Rattle.survey_file.specs.Decode.{wordAt, listIn, scoresIn, scoresPart, streetsIn, sitesIn, rowsIn, fileRefusal};
+ghost use Rattle.counting.specs.Buffers.{Mapped};
+ghost use Rattle.survey.specs.Town.{was, is};
+ghost use Rattle.survey_file.specs.Decode.{wordAt, listIn, streetsIn, sitesIn, rowsIn, fileRefusal};
+ghost use Rattle.survey_file.specs.FileBuffers.{rowsRead, scoresRead};
 
 // The scores, one after another.
 fn fill_scores(file: &[u8], m: usize, scores: &mut [u16])
@@ -42,7 +45,7 @@ fn fill_row(file: &[u8], from: usize, row: &mut [u8])
 
 // The rows, street by street: each record tells where the next one begins.
 fn fill_rows(file: &[u8], n: usize, m: usize, rows: &mut [u8])
-    requires { ⌜ (fileRefusal (now file) ≡ 0) × (n ≡ streetsIn (now file)) × (m ≡ sitesIn (now file)) × (length (now rows) ≡ 25600) ⌝ }
+    requires { ⌜ (fileRefusal (now file) ≡ 0) × (n ≡ streetsIn (now file)) × (m ≡ sitesIn (now file)) × (length (now rows) ≡ mostRows) ⌝ }
     ensures { λ _. ⌜ Mapped (λ i x. at (rowsIn (now (file .entry))) i) (now (rows .entry)) (now (rows .exit)) (n * m) ⌝ }
 {
     let mut from = 9 + 2 * m;
@@ -56,9 +59,10 @@ fn fill_rows(file: &[u8], n: usize, m: usize, rows: &mut [u8])
 
 // Both buffers: the first m scores and the first n times m bytes of the rows.
 pub fn fill(file: &[u8], n: usize, m: usize, rows: &mut [u8], scores: &mut [u16])
-    requires { ⌜ (fileRefusal (now file) ≡ 0) × (n ≡ streetsIn (now file)) × (m ≡ sitesIn (now file)) × (length (now rows) ≡ 25600) × (length (now scores) ≡ 64) ⌝ }
-    ensures rows { λ _. ⌜ now (rows .exit) ≡ laid (now (rows .entry)) 0 (rowsIn (now (file .entry))) ⌝ }
-    ensures scores { λ _. ⌜ now (scores .exit) ≡ laid (now (scores .entry)) 0 (scoresIn (sitesIn (now (file .entry))) (scoresPart (now (file .entry)))) ⌝ }
+    requires { ⌜ (fileRefusal (now file) ≡ 0) × (n ≡ streetsIn (now file)) × (m ≡ sitesIn (now file)) ×
+        (length (now rows) ≡ mostRows) × (length (now scores) ≡ mostSites) ⌝ }
+    ensures rows { λ _. ⌜ is rows ≡ rowsRead (was file) (was rows) ⌝ }
+    ensures scores { λ _. ⌜ is scores ≡ scoresRead (was file) (was scores) ⌝ }
 {
     fill_scores(file, m, scores);
     fill_rows(file, n, m, rows);

@@ -16,7 +16,8 @@ use prog.Wp.{Heap, Env, Calls, Loops}
 use ghost.Atoms.{Atoms, sem}
 use contract.Lifetimes.{Lfts}
 use contract.Monad.{Fun, fact}
-use types.Kit.{Given, Item, Post, Seq, runs, lands, ‵, raw, _⊛_, given, mean, ⋆, some, later, _$_, _∵_, !, qed, move, drop, use1, use2, split, join, learn, pick, rewrite, fjoin, frame, await, updating, now as settled, done}
+use types.Kit.{Given, Item, Post, Seq, runs, lands, ‵, raw, _⊛_, given, mean, ⋆, some, later, _$_, _∵_, !, qed, move, drop, use1, use2, split, join}
+use types.Kit.{learn, pick, rewrite, fjoin, frame, await, updating, now as settled, done}
 use types.Run.{Opds}
 use sound.WpLaws.{FmC}
 use denote.RattleType.{RattleType}
@@ -115,12 +116,13 @@ module _ {M : Type 1} (𝓤 : URA M) (H : Heap 𝓤) (A : Atoms 𝓤) (W : Given
 
 -- ---- a reader that a call returns is held in a local, where MIR erases the lifetime of its type
 -- the machine value u can be stored in such a local
-abbrev pub Held : Val → Type 0
-Held u = Typed (T′.mir erased ∷ []) (u ∷ [])
+abbrev pub Storable : Val → Type 0
+Storable u = Typed (T′.mir erased ∷ []) (u ∷ [])
 
 -- a reader's can
-held : {M : Type 1} (𝓤 : URA M) (H : Heap 𝓤) (A : Atoms 𝓤) (W : Given 𝓤 H A) (κ : Lft) (r : Reader) (u : Val) → Is (B (κ, tt)) r (u ∷ []) → Held u
-held 𝓤 H A W κ r u is = LL.lawful (T.the-type (record { mir = erased; lft = κ })) (T′.the-laws (record { mir = erased; lft = κ })) 𝓤 H A W .typed r _ is
+storable : {M : Type 1} (𝓤 : URA M) (H : Heap 𝓤) (A : Atoms 𝓤) (W : Given 𝓤 H A) (κ : Lft) (r : Reader) (u : Val)
+    → Is (B (κ, tt)) r (u ∷ []) → Storable u
+storable 𝓤 H A W κ r u is = LL.lawful (T.the-type (record { mir = erased; lft = κ })) (T′.the-laws (record { mir = erased; lft = κ })) 𝓤 H A W .typed r _ is
 
 -- ---- the contracts that a caller cites
 module _ {M : Type 1} (𝓤 : URA M) (H : Heap 𝓤) (A : Atoms 𝓤) (mem : Memory → SProp 𝓤) (run : Routine → Fun 𝓤) where
@@ -143,14 +145,17 @@ Token κ q = ‵ (flft κ q) ⊛ ‵ ftrue
 
 module _ {M : Type 1} {𝓤 : URA M} {H : Heap 𝓤} {A : Atoms 𝓤} (W : Given 𝓤 H A) (κ : Lft) (q : Share) where
   -- where what the callee tells of a result fixes it
-  pub gives : (R : RattleType) (y : R .Denot) (v : Val) (told : R .Denot → SProp 𝓤) (φ : R .Denot → Type 0) → ((x : R .Denot) → ent 𝓤 (told x) (fact 𝓤 (φ x))) → ((x : R .Denot) → φ x → x ≡ y)
-      → ent 𝓤 (mean 𝓤 H A (later (some (λ (x : R .Denot). (Token κ q ⊛ ‵ (R .own x (v ∷ []))) ⊛ raw (told x))))) (mean 𝓤 H A (later (‵ (R .own y (v ∷ [])) ⊛ Token κ q)))
+  pub gives : (R : RattleType) (y : R .Denot) (v : Val) (told : R .Denot → SProp 𝓤) (φ : R .Denot → Type 0)
+      → ((x : R .Denot) → ent 𝓤 (told x) (fact 𝓤 (φ x))) → ((x : R .Denot) → φ x → x ≡ y)
+      → ent 𝓤 (mean 𝓤 H A (later (some (λ (x : R .Denot). (Token κ q ⊛ ‵ (R .own x (v ∷ []))) ⊛ raw (told x)))))
+      (mean 𝓤 H A (later (‵ (R .own y (v ∷ [])) ⊛ Token κ q)))
   gives R y v told φ hears fixes =
       qed W (later (some (λ (x : R .Denot). (Token κ q ⊛ ‵ (R .own x (v ∷ []))) ⊛ raw (told x))) ∷ []) ∵ updating ! $ await ! tt $ pick ! (λ x.
       split ! $ move ! (1 ∷ []) $ use1 W (raw (fact 𝓤 (φ x))) (hears x) $ heard ! (φ x) (λ e.
       split ! $ rewrite ! 1 (λ (z : R .Denot). ‵ (R .own z (v ∷ []))) (fixes x e) refl $ move ! (1 ∷ []) $ settled ! $ done !))
 
-module _ {M : Type 1} {𝓤 : URA M} {H : Heap 𝓤} {A : Atoms 𝓤} {K : Type 0} {W : Given 𝓤 H A} {Γ : List (Item 𝓤)} {E : Env 𝓤 H} {C : Calls 𝓤 H} {Λ : Loops 𝓤 H} {Q : Post 𝓤 H} {d : Place} {f : Name} {xs : List Operand} {rest : Body} (κ : Lft) (q : Share) where
+module _ {M : Type 1} {𝓤 : URA M} {H : Heap 𝓤} {A : Atoms 𝓤} {K : Type 0} {W : Given 𝓤 H A} {Γ : List (Item 𝓤)} {E : Env 𝓤 H} {C : Calls 𝓤 H}
+    {Λ : Loops 𝓤 H} {Q : Post 𝓤 H} {d : Place} {f : Name} {xs : List Operand} {rest : Body} (κ : Lft) (q : Share) where
   -- from what is owned before the call to what is owned after it. The operands are read while what the callee asks stands at the head
   pub calls : K → FmC 𝓤 H (W .laws) C → (c : Contract 𝓤) → Triple 𝓤 (C f) c → (x : c .Ghost) (P : Fml) (R : RattleType) (y : R .Denot)
       → ent 𝓤 (⋆ 𝓤 H A (‵ P ∷ Token κ q ∷ [])) (c .pre x) → ((v : Val) → ent 𝓤 (c .post x v) (mean 𝓤 H A (later (‵ (R .own y (v ∷ [])) ⊛ Token κ q))))
@@ -176,46 +181,57 @@ module _ {M : Type 1} (𝓤 : URA M) (H : Heap 𝓤) (A : Atoms 𝓤) (mem : Mem
   abbrev to-streets : Reader → ℕ → ℕ → Val → Streets 𝓤 H A mem run .Ghost
   to-streets r n m u = (((κ, tt), (q, tt), tt, (r, (n, (m, tt))), (u ∷ [], (vint w64 n ∷ [], (vint w8 m ∷ [], tt)))), tt)
 
-module _ {M : Type 1} {𝓤 : URA M} {H : Heap 𝓤} {A : Atoms 𝓤} {K : Type 0} {W : Given 𝓤 H A} {Γ : List (Item 𝓤)} {E : Env 𝓤 H} {C : Calls 𝓤 H} {Λ : Loops 𝓤 H} {Q : Post 𝓤 H} {d : Place} {f : Name} {xs : List Operand} {rest : Body} (mem : Memory → SProp 𝓤) (run : Routine → Fun 𝓤) (κ : Lft) (q : Share) where
+module _ {M : Type 1} {𝓤 : URA M} {H : Heap 𝓤} {A : Atoms 𝓤} {K : Type 0} {W : Given 𝓤 H A} {Γ : List (Item 𝓤)} {E : Env 𝓤 H} {C : Calls 𝓤 H}
+    {Λ : Loops 𝓤 H} {Q : Post 𝓤 H} {d : Place} {f : Name} {xs : List Operand} {rest : Body} (mem : Memory → SProp 𝓤)
+    (run : Routine → Fun 𝓤) (κ : Lft) (q : Share) where
   -- a lent file, which is kept, gives a reader at its start
   pub calls-new : K → FmC 𝓤 H (W .laws) C → Triple 𝓤 (C f) (New 𝓤 H A mem run) → (s : RefT (List ℕ))
       → Opds K W (raw (New 𝓤 H A mem run .pre (to-new 𝓤 H A mem run κ q s)) ∷ ‵ (FileOwns κ s) ∷ Γ) E xs (lent s ∷ [])
-      → ((v : Val) → Held v → Seq K W (‵ (ReaderOwns κ (start s) v) ∷ Token κ q ∷ ‵ (FileOwns κ s) ∷ Γ) (lands C Λ E d v rest Q))
+      → ((v : Val) → Storable v → Seq K W (‵ (ReaderOwns κ (start s) v) ∷ Token κ q ∷ ‵ (FileOwns κ s) ∷ Γ) (lands C Λ E d v rest Q))
       → Seq K W (‵ (FileOwns κ s) ∷ Token κ q ∷ Γ) (runs C Λ E (seq (call f xs d) rest) Q)
   calls-new t fm known s os k =
       use1 W (‵ (FileOwns κ s) ⊛ ‵ (FileOwns κ s)) (shr-slice-copy 𝓤 H A W (named 0) κ u8 .twice s (lent s ∷ [])) $ split t $ move t (0 ∷ 2 ∷ []) $
       calls κ q t fm (New 𝓤 H A mem run) known (to-new 𝓤 H A mem run κ q s) (FileOwns κ s) (B (κ, tt)) (start s)
       (qed W (‵ (FileOwns κ s) ∷ Token κ q ∷ []) ∵ nothing ! $ move ! (1 ∷ 0 ∷ []) $ fjoin ! $ move ! (1 ∷ 0 ∷ []) $ join ! $ frame ! $ done !)
       (λ v. gives W κ q (B (κ, tt)) (start s) v (ensured 𝓤 H A new.ended (new.clauses 𝓤 H A mem run) (κ, tt) (s, tt) tt) (λ r. (r .file ≡ s) × (r .count ≡ 0))
-      (λ r. exE 𝓤 _ (λ ws. snd∗ 𝓤 (sem 𝓤 H A (lasts new.ended (κ, tt) (s, tt) ws)) (fact 𝓤 ((r .file ≡ s) × (r .count ≡ 0))))) (λ r e i. record { file = e .0 i; count = e .1 i }))
-      os (λ v is. k v (held 𝓤 H A W κ (start s) v is))
+      (λ r. exE 𝓤 _ (λ ws. snd∗ 𝓤 (sem 𝓤 H A (lasts new.ended (κ, tt) (s, tt) ws)) (fact 𝓤 ((r .file ≡ s) × (r .count ≡ 0)))))
+      (λ r e i. record { file = e .0 i; count = e .1 i }))
+      os (λ v is. k v (storable 𝓤 H A W κ (start s) v is))
 
   -- a reader and a size within its file give the reader past it
-  pub calls-past : K → FmC 𝓤 H (W .laws) C → Triple 𝓤 (C f) (Past 𝓤 H A mem run) → (r : Reader) (n : ℕ) (u : Val) → n < 2 ^ 64 → r .count + n ≤ length (r .file .now)
+  pub calls-past : K → FmC 𝓤 H (W .laws) C → Triple 𝓤 (C f) (Past 𝓤 H A mem run) → (r : Reader) (n : ℕ) (u : Val) → n < 2 ^ 64
+      → r .count + n ≤ length (r .file .now)
       → Opds K W (raw (Past 𝓤 H A mem run .pre (to-past 𝓤 H A mem run κ q r n u)) ∷ Γ) E xs (u ∷ vint w64 n ∷ [])
-      → ((v : Val) → Held v → Seq K W (‵ (ReaderOwns κ (further r n) v) ∷ Token κ q ∷ Γ) (lands C Λ E d v rest Q))
+      → ((v : Val) → Storable v → Seq K W (‵ (ReaderOwns κ (further r n) v) ∷ Token κ q ∷ Γ) (lands C Λ E d v rest Q))
       → Seq K W (‵ (ReaderOwns κ r u) ∷ Token κ q ∷ Γ) (runs C Λ E (seq (call f xs d) rest) Q)
   calls-past t fm known r n u fits within os k =
       calls κ q t fm (Past 𝓤 H A mem run) known (to-past 𝓤 H A mem run κ q r n u) (ReaderOwns κ r u) (B (κ, tt)) (further r n)
-      (qed W (‵ (ReaderOwns κ r u) ∷ Token κ q ∷ []) ∵ says ! within $ nothing ! $ owned ! usize (Is usize) (uint-makes 𝓤 H A W w64) n _ (refl, fits) $ fjoin ! $ move ! (1 ∷ 0 ∷ []) $ fjoin ! $ move ! (1 ∷ 0 ∷ []) $ frame ! $ done !)
-      (λ v. gives W κ q (B (κ, tt)) (further r n) v (ensured 𝓤 H A past.ended (past.clauses 𝓤 H A mem run) (κ, tt) (r, (n, tt)) tt) (λ x. (x .file ≡ r .file) × (x .count ≡ r .count + n))
-      (λ x. exE 𝓤 _ (λ ws. snd∗ 𝓤 (sem 𝓤 H A (lasts past.ended (κ, tt) (r, (n, tt)) ws)) (fact 𝓤 ((x .file ≡ r .file) × (x .count ≡ r .count + n))))) (λ x e i. record { file = e .0 i; count = e .1 i }))
-      os (λ v is. k v (held 𝓤 H A W κ (further r n) v is))
+      (qed W (‵ (ReaderOwns κ r u) ∷ Token κ q ∷ []) ∵ says ! within $ nothing ! $
+      owned ! usize (Is usize) (uint-makes 𝓤 H A W w64) n _ (refl, fits) $ fjoin ! $ move ! (1 ∷ 0 ∷ []) $ fjoin ! $ move ! (1 ∷ 0 ∷ []) $ frame ! $ done !)
+      (λ v. gives W κ q (B (κ, tt)) (further r n) v (ensured 𝓤 H A past.ended (past.clauses 𝓤 H A mem run) (κ, tt) (r, (n, tt)) tt)
+      (λ x. (x .file ≡ r .file) × (x .count ≡ r .count + n))
+      (λ x. exE 𝓤 _ (λ ws. snd∗ 𝓤 (sem 𝓤 H A (lasts past.ended (κ, tt) (r, (n, tt)) ws)) (fact 𝓤 ((x .file ≡ r .file) × (x .count ≡ r .count + n)))))
+      (λ x e i. record { file = e .0 i; count = e .1 i }))
+      os (λ v is. k v (storable 𝓤 H A W κ (further r n) v is))
 
   -- a reader within its file and the record that is due give the record found
-  pub calls-next : K → FmC 𝓤 H (W .laws) C → Triple 𝓤 (C f) (Next 𝓤 H A mem run) → (r : Reader) (due : Due) (u : Val) → Is D.the-row due (asked due ∷ []) → r .count ≤ length (r .file .now)
+  pub calls-next : K → FmC 𝓤 H (W .laws) C → Triple 𝓤 (C f) (Next 𝓤 H A mem run) → (r : Reader) (due : Due) (u : Val)
+      → Is D.the-row due (asked due ∷ []) → r .count ≤ length (r .file .now)
       → Opds K W (raw (Next 𝓤 H A mem run .pre (to-next 𝓤 H A mem run κ q r due u)) ∷ Γ) E xs (u ∷ asked due ∷ [])
       → ((v : Val) → Is S.the-row (found r due) (v ∷ []) → Seq K W (‵ (S.the-row .own (found r due) (v ∷ [])) ∷ Token κ q ∷ Γ) (lands C Λ E d v rest Q))
       → Seq K W (‵ (ReaderOwns κ r u) ∷ Token κ q ∷ Γ) (runs C Λ E (seq (call f xs d) rest) Q)
   calls-next t fm known r due u is-due within os k =
       calls κ q t fm (Next 𝓤 H A mem run) known (to-next 𝓤 H A mem run κ q r due u) (ReaderOwns κ r u) S.the-row (found r due)
-      (qed W (‵ (ReaderOwns κ r u) ∷ Token κ q ∷ []) ∵ says ! within $ nothing ! $ owned ! D.the-row (Is D.the-row) (EL.makes D.the-type D′.the-plain 𝓤 H A) due _ is-due $ fjoin ! $ move ! (1 ∷ 0 ∷ []) $ fjoin ! $ move ! (1 ∷ 0 ∷ []) $ frame ! $ done !)
+      (qed W (‵ (ReaderOwns κ r u) ∷ Token κ q ∷ []) ∵ says ! within $ nothing ! $
+      owned ! D.the-row (Is D.the-row) (EL.makes D.the-type D′.the-plain 𝓤 H A) due _ is-due $ fjoin ! $ move ! (1 ∷ 0 ∷ []) $ fjoin ! $
+      move ! (1 ∷ 0 ∷ []) $ frame ! $ done !)
       (λ v. gives W κ q S.the-row (found r due) v (ensured 𝓤 H A next.ended (next.clauses 𝓤 H A mem run) (κ, tt) (r, (due, tt)) tt) (λ x. x ≡ found r due)
       (λ x. exE 𝓤 _ (λ ws. snd∗ 𝓤 (sem 𝓤 H A (lasts next.ended (κ, tt) (r, (due, tt)) ws)) (fact 𝓤 (x ≡ found r due)))) (λ x e. e))
       os k
 
   -- a reader within its file and the numbers of streets and of sites give the first refusal of the streets and the end
-  pub calls-streets : K → FmC 𝓤 H (W .laws) C → Triple 𝓤 (C f) (Streets 𝓤 H A mem run) → (r : Reader) (n m : ℕ) (u : Val) → n < 2 ^ 64 → m < 2 ^ 8 → r .count ≤ length (r .file .now)
+  pub calls-streets : K → FmC 𝓤 H (W .laws) C → Triple 𝓤 (C f) (Streets 𝓤 H A mem run) → (r : Reader) (n m : ℕ) (u : Val) → n < 2 ^ 64 → m < 2 ^ 8
+      → r .count ≤ length (r .file .now)
       → Opds K W (raw (Streets 𝓤 H A mem run .pre (to-streets 𝓤 H A mem run κ q r n m u)) ∷ Γ) E xs (u ∷ vint w64 n ∷ vint w8 m ∷ [])
       → ((v : Val) → Is u8 (refusal r n m) (v ∷ []) → Seq K W (‵ (u8 .own (refusal r n m) (v ∷ [])) ∷ Token κ q ∷ Γ) (lands C Λ E d v rest Q))
       → Seq K W (‵ (ReaderOwns κ r u) ∷ Token κ q ∷ Γ) (runs C Λ E (seq (call f xs d) rest) Q)

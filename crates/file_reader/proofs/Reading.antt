@@ -21,7 +21,7 @@ use Rattle.file_reader.specs.declared.records.Due.{Due}
 use Rattle.file_reader.specs.declared.records.Due.the-variants as due
 use Rattle.file_reader.specs.declared.records.Record.{Record}
 use Rattle.file_reader.specs.declared.records.Record.the-variants as got
-use Rattle.file_reader.specs.Answers.{markOf, fieldsRefusal, townIn, streetIn, fieldsOf, recordUnless, recordRefusal, recordOf, numberOf}
+use Rattle.file_reader.specs.Answers.{markOf, fieldsRefusal, townAnswer, streetAnswer, fieldsOf, recordUnless, recordRefusal, recordOf, numberOf}
 use Rattle.file_reader.proofs.records.Due as due-type
 use Rattle.file_reader.proofs.records.Record as record-type
 
@@ -61,9 +61,9 @@ street-long m number rest r e z =
 
 -- the town that was read
 pub town-given : (rest : List ℕ) (r n : ℕ) → r ≡ townFields rest → r ≡ 0 → n ≡ wordAt rest 2
-    → got.Town n (at rest 4) (at rest 5) (at rest 6) ≡ recordUnless (townFields rest) (townIn rest)
+    → got.Town n (at rest 4) (at rest 5) (at rest 6) ≡ recordUnless (townFields rest) (townAnswer rest)
 town-given rest r n e z is =
-    ap (λ (k : ℕ). got.Town k (at rest 4) (at rest 5) (at rest 6)) is ∙ accepted (townFields rest) r (townIn rest) e z
+    ap (λ (k : ℕ). got.Town k (at rest 4) (at rest 5) (at rest 6)) is ∙ accepted (townFields rest) r (townAnswer rest) e z
 
 -- ---- what the mark decides
 -- no mark is there
@@ -182,12 +182,12 @@ parts got.End = []
 parts (got.Refused x) = []
 
 -- the fields of a town that was read
-pub town-parts : (rest : List ℕ) (n m k kind : ℕ) → got.Town n m k kind ≡ townIn rest
+pub town-parts : (rest : List ℕ) (n m k kind : ℕ) → got.Town n m k kind ≡ townAnswer rest
     → (n ≡ wordAt rest 2) × (m ≡ at rest 4) × (k ≡ at rest 5) × (kind ≡ at rest 6)
 town-parts rest n m k kind e =
-    let part : (i : ℕ) → at (parts (got.Town n m k kind)) i ≡ at (parts (townIn rest)) i = λ i. ap (λ (a : Record). at (parts a) i) e in
+    let part : (i : ℕ) → at (parts (got.Town n m k kind)) i ≡ at (parts (townAnswer rest)) i = λ i. ap (λ (a : Record). at (parts a) i) e in
     (part 0, part 1, part 2, part 3)
 
 -- the length of the list of a street that was read
-pub street-part : (rest : List ℕ) (size : ℕ) → got.Street size ≡ streetIn rest → size ≡ at rest 4
+pub street-part : (rest : List ℕ) (size : ℕ) → got.Street size ≡ streetAnswer rest → size ≡ at rest 4
 street-part rest size e = ap (λ (a : Record). at (parts a) 0) e

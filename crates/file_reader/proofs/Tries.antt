@@ -11,7 +11,7 @@ use lib.ListN.{getD, take, drop}
 use borrow.Author.Tests.{lt-ltb, le-ltb, eq-eqb, ne-eqb}
 use Rattle.counting.specs.Words.{firstOf}
 use Rattle.counting.specs.Lists.{at}
-use Rattle.counting.specs.Flags.{Marks}
+use Rattle.counting.specs.Flags.{Flags}
 use Rattle.counting.proofs.Refusals.{first-same}
 use Rattle.counting.proofs.Sums.{listOf-length, listOf-at}
 use Rattle.survey.specs.Refusals.{scoreRefusal, scoresRefusal}
@@ -68,7 +68,7 @@ scores-read m rest =
     here i l = rw (listOf-at m (scoreIn rest) i l, listOf-at m (scoreIn rest) (i - 1) (omega arith))
 
 -- ---- the refusal of a byte, looked up in the table of bytes seen so far
-pub byte-read : (m : ℕ) (list : List ℕ) (seen : List Bool) (j r : ℕ) → Marks seen (take j list) → at list j < 256
+pub byte-read : (m : ℕ) (list : List ℕ) (seen : List Bool) (j r : ℕ) → Flags seen (take j list) → at list j < 256
     → r ≡ siteField m (getD seen (at list j) false) (at list j) → r ≡ byteField m list j
 byte-read m list seen j r h l e = e ∙ ap (λ (t : Bool). siteField m t (at list j)) (h .right (at list j) l)
 

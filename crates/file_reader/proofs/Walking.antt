@@ -34,7 +34,8 @@ street-taken file m number here size e =
     let rest : List ℕ = drop here file in
     let (quiet, fields) = no-refusal (due.Street m number) rest (got.Street size) e tt in
     let part : size ≡ at rest 4 = street-part rest size fields in
-    (quiet, part, omega (arith, part, street-long m number rest _ refl (or-zero (markRefusal streetMark rest) (streetFields m number rest) quiet .1), length-drop here file))
+    let long = street-long m number rest _ refl (or-zero (markRefusal streetMark rest) (streetFields m number rest) quiet .1) in
+    (quiet, part, omega (arith, part, length-drop here file))
 
 -- no street record is read yet
 pub past-none : (streets : List ℕ) → streets ≡ past streets 0
@@ -73,7 +74,8 @@ module _ (file streets : List ℕ) (m here i : ℕ) (rest-is : drop here file �
       (first-found i n (streetRecord m streets) r l quiet (street-is r number) some) some
 
   -- one that is not leads on
-  pub street-passes : firstOf i (streetRecord m streets) ≡ 0 → recordRefusal (due.Street m (i + 1)) (drop here file) ≡ 0 → firstOf (i + 1) (streetRecord m streets) ≡ 0
+  pub street-passes : firstOf i (streetRecord m streets) ≡ 0 → recordRefusal (due.Street m (i + 1)) (drop here file) ≡ 0
+      → firstOf (i + 1) (streetRecord m streets) ≡ 0
   street-passes quiet z = first-next i (streetRecord m streets) _ quiet (street-is _ refl) z
 
   -- behind the last street stands the end

@@ -35,6 +35,11 @@ unfolding checkedUnless
 check-accepted zero sizes e = refl
 check-accepted (suc x) sizes e = absurd (suc-ne-zero x (sym e))
 
+-- the tries behind TN, where that gives n streets and m sites
+abbrev behind-town : List ℕ → ℕ → ℕ → ℕ
+behind-town file n m =
+    (markRefusal scoresMark (scoresPart file) orElse scoresFields m (scoresPart file)) orElse streetsAndEnd n m (drop (9 + 2 * m) file)
+
 module _ (file : List ℕ) where
   -- what a check promises of its answer
   abbrev Right : Checked → Type 0
@@ -53,7 +58,7 @@ module _ (file : List ℕ) where
       let some : r ≡ 0 → ⊥ = λ z. some-refusal due.Town file answer is (1 ∷ 2 ∷ 3 ∷ 4 ∷ []) other tt (sym number ∙ z) in
       stops r (or-stop r (markRefusal townMark file orElse townFields file) _ number some) some
 
-  module _ (n m k kind : ℕ) (town : got.Town n m k kind ≡ recordOf due.Town file) where
+  module _ {n m k kind : ℕ} (town : got.Town n m k kind ≡ recordOf due.Town file) where
     -- a town that was read is not refused
     quiet : recordRefusal due.Town file ≡ 0
     quiet = no-refusal due.Town file (got.Town n m k kind) town tt .0
@@ -68,12 +73,11 @@ module _ (file : List ℕ) where
     town-there = town-long file _ refl (or-zero (markRefusal townMark file) (townFields file) quiet .1)
 
     -- the scores, the streets and the end decide
-    past-town : (r : ℕ) → r ≡ (markRefusal scoresMark (scoresPart file) orElse scoresFields m (scoresPart file)) orElse streetsAndEnd n m (drop (9 + 2 * m) file) → r ≡ fileRefusal file
+    past-town : (r : ℕ) → r ≡ behind-town file n m → r ≡ fileRefusal file
     unfolding markOf fileRefusal
     past-town r e =
         or-pass r 0 (markRefusal townMark file orElse townFields file) _ (sym quiet) refl
-        (e ∙ ap (λ (x : ℕ). (markRefusal scoresMark (scoresPart file) orElse scoresFields m (scoresPart file)) orElse streetsAndEnd x m (drop (9 + 2 * m) file)) (fields .0)
-        ∙ ap (λ (x : ℕ). (markRefusal scoresMark (scoresPart file) orElse scoresFields x (scoresPart file)) orElse streetsAndEnd (streetsIn file) x (drop (9 + 2 * x) file)) (fields .1))
+        (e ∙ ap (λ (x : ℕ). behind-town file x m) (fields .0) ∙ ap (λ (x : ℕ). behind-town file (streetsIn file) x) (fields .1))
 
     -- ---- the scores: an answer that is no table of scores ends the check
     pub scores-stop : (r : ℕ) (answer : Record) → answer ≡ recordOf (due.Scores m) (drop 7 file)

@@ -26,18 +26,18 @@ fieldsRefusal (due.Street m number) rest = streetFields m number rest
 fieldsRefusal due.End rest = endFields rest
 
 -- the fields of TN
-abbrev pub townIn : List ℕ → Record
-townIn rest = got.Town (wordAt rest 2) (at rest 4) (at rest 5) (at rest 6)
+abbrev pub townAnswer : List ℕ → Record
+townAnswer rest = got.Town (wordAt rest 2) (at rest 4) (at rest 5) (at rest 6)
 
 -- the length of the list in ST
-abbrev pub streetIn : List ℕ → Record
-streetIn rest = got.Street (at rest 4)
+abbrev pub streetAnswer : List ℕ → Record
+streetAnswer rest = got.Street (at rest 4)
 
 -- the answer where nothing is refused
 abbrev pub fieldsOf : Due → List ℕ → Record
-fieldsOf due.Town rest = townIn rest
+fieldsOf due.Town rest = townAnswer rest
 fieldsOf (due.Scores m) rest = got.Scores
-fieldsOf (due.Street m number) rest = streetIn rest
+fieldsOf (due.Street m number) rest = streetAnswer rest
 fieldsOf due.End rest = got.End
 
 -- an answer where the number is 0, else the refusal of that number

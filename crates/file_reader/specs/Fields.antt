@@ -5,8 +5,9 @@ use mathlib.Core.Bool.{Bool, _&&_}
 use mathlib.Core.List.{List}
 use lib.Dec.{ltb}
 use lib.ListN.{length}
+use Rattle.counting.specs.Bounds.{topScore}
 use Rattle.counting.specs.Words.{_when_, _orElse_, firstOf, outside}
-use Rattle.survey.specs.Refusals.{topScore, sitesRefusal, chosenRefusal, kindRefusal}
+use Rattle.survey.specs.Refusals.{sitesRefusal, chosenRefusal, kindRefusal}
 use Rattle.survey_file.specs.Decode.{wordAt, byteField}
 
 -- 2, 3, 4: what TN tries behind the number of streets

@@ -4,7 +4,7 @@ ghost use mathlib.Core.Path.{_≡_};
 ghost use Prim.Native.Nat.{_≤_};
 ghost use lib.ListN.{length, drop};
 ghost use Rattle.survey_file.specs.Decode.{townFields, scoresFields, streetFields, endFields};
-ghost use Rattle.file_reader.specs.Answers.{recordUnless, townIn, streetIn, recordOf, numberOf};
+ghost use Rattle.file_reader.specs.Answers.{recordUnless, townAnswer, streetAnswer, recordOf, numberOf};
 
 // The record that is due, with what its fields are held against: the number of sites, and the number of the street.
 pub enum Due {
@@ -35,7 +35,7 @@ pub fn number_of(answer: Record) -> u8
 
 // The record TN, past its mark.
 fn town_in(rest: &[u8]) -> Record
-    ensures { λ r. ⌜ r ≡ recordUnless (townFields (now (rest .entry))) (townIn (now (rest .entry))) ⌝ }
+    ensures { λ r. ⌜ r ≡ recordUnless (townFields (now (rest .entry))) (townAnswer (now (rest .entry))) ⌝ }
 {
     let x = fields::town_refusal(rest);
     if x != 0 {
@@ -62,7 +62,7 @@ fn scores_in(rest: &[u8], m: u8) -> Record
 
 // The record ST, past its mark.
 fn street_in(rest: &[u8], m: u8, number: usize) -> Record
-    ensures { λ r. ⌜ r ≡ recordUnless (streetFields m number (now (rest .entry))) (streetIn (now (rest .entry))) ⌝ }
+    ensures { λ r. ⌜ r ≡ recordUnless (streetFields m number (now (rest .entry))) (streetAnswer (now (rest .entry))) ⌝ }
 {
     let x = fields::street_refusal(rest, m, number);
     if x != 0 {

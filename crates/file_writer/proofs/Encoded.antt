@@ -1,22 +1,22 @@
 -- The parts of a file: how long each of them is, what the loops over a list and over the streets have written, and the file made of them.
 -- Assumes nothing.
 use mathlib.Core.Path.{_≡_, refl, ap, _∙_}
-use mathlib.Core.List.{List, [], _∷_, _++_}
+use mathlib.Core.List.{List, _++_}
 use Prim.Native.Nat.{ℕ, _+_, _*_, _≤_}
 use native.Mathlib.Nat.{le-antisymm}
 use native.Mathlib.Numerals.{add-one}
 use native.Mathlib.Omega.{arith}
 use lib.ListN.{length, drop, length-append, length-take}
-use lib.Seq.{ext-getD}
+use Rattle.counting.specs.Bounds.{mostSites}
 use Rattle.counting.specs.Lists.{at}
-use Rattle.counting.specs.Buffers.{joined, listOf, laid}
-use Rattle.counting.proofs.Sums.{listOf-length, listOf-at}
-use Rattle.survey.specs.Rows.{rowOf, listOfStreet}
+use Rattle.counting.specs.Buffers.{joined, Written}
+use Rattle.counting.proofs.Laying.{joined-next, written-next}
+use Rattle.survey.specs.Town.{Town, townOf}
+use Rattle.survey.specs.Rows.{rowAt, rankedPart}
 use Rattle.survey_file.specs.Encode.{word, townBytes, scoresBytes, listBytes, streetBytes, encode, endMark}
-use Rattle.file_writer.specs.Written.{Written}
+use Rattle.survey_file.specs.FileBuffers.{fileWritten}
 use Rattle.survey.proofs.Lists.{ranked-length}
 use Rattle.survey_file.proofs.Joined.{joined-even}
-use Rattle.file_writer.proofs.Laying.{joined-next, turns-all, written-next}
 
 -- ---- lengths
 -- the length of the record SC
@@ -24,43 +24,27 @@ scores-length : (m : ℕ) (scores : List ℕ) → length (scoresBytes m scores) 
 scores-length m scores = omega (arith, joined-even m 2 (λ i. word (at scores i)) (λ i l. refl))
 
 -- the length of a file, by its records
-pub records-length : (n m k kind : ℕ) (scores rows : List ℕ)
-    → length (encode n m k kind scores rows) ≡ 7 + length (scoresBytes m scores) + length (joined n (streetBytes m rows)) + 2
+pub records-length : (t : Town) (k kind : ℕ)
+    → length (encode t k kind) ≡ 7 + length (scoresBytes (t .m) (t .scores)) + length (joined (t .n) (streetBytes (t .m) (t .rows))) + 2
 unfolding encode
-records-length n m k kind scores rows =
-    let table : List ℕ = joined m (λ i. word (at scores i)) in
-    let streets : List ℕ = joined n (streetBytes m rows) in
+records-length t k kind =
+    let table : List ℕ = joined (t .m) (λ i. word (at (t .scores) i)) in
+    let streets : List ℕ = joined (t .n) (streetBytes (t .m) (t .rows)) in
     omega (arith, length-append (table ++ streets) (word endMark), length-append table streets)
 
 -- a street's list has at most m sites
-pub list-short : (m : ℕ) (rows : List ℕ) (s : ℕ) → length (listOfStreet m rows s) ≤ m
-list-short m rows s = omega (arith, ranked-length (rowOf m rows s), length-take m (drop (s * m) rows))
-
--- ---- a list
--- the numbers of a list, one behind the other, have its length
-pub list-room : (list file : List ℕ) (i : ℕ) → i + length list ≤ length file → i + length (listOf (length list) (at list)) ≤ length file
-list-room list file i l = omega (arith, listOf-length (length list) (at list))
-
--- they are the list
-list-whole : (list : List ℕ) → listOf (length list) (at list) ≡ list
-list-whole list =
-    let size = listOf-length (length list) (at list) in
-    ext-getD 0 (listOf (length list) (at list)) list size (λ i l. listOf-at (length list) (at list) i (omega (arith, size)))
-
--- once all of them are written, the list is
-pub list-written : (list : List ℕ) {before : List ℕ} {i j : ℕ} {now : List ℕ} {next : ℕ} → length list ≤ j → j ≤ length list
-    → Written before i (listOf j (at list)) now next → Written before i list now next
-list-written list a b w = rw (list-whole list) at (turns-all (λ k. at list k ∷ []) w (length list) a b)
+pub list-short : (m : ℕ) (rows : List ℕ) (s : ℕ) → length (rankedPart (rowAt m rows s)) ≤ m
+list-short m rows s = omega (arith, ranked-length (rowAt m rows s), length-take m (drop (s * m) rows))
 
 -- ---- the streets
-module _ (m : ℕ) (rows : List ℕ) (s : ℕ) (list : List ℕ) (same : list ≡ listOfStreet m rows s) where
+module _ (m : ℕ) (rows : List ℕ) (s : ℕ) (list : List ℕ) (same : list ≡ rankedPart (rowAt m rows s)) where
   -- the record ST of a street, whose list was looked up
   street-is : listBytes (s + 1) list ≡ streetBytes m rows s
-  street-is = ap (λ (l : List ℕ). listBytes (s + 1) l) same ∙ ap (λ (number : ℕ). listBytes number (listOfStreet m rows s)) (add-one s)
+  street-is = ap (λ (l : List ℕ). listBytes (s + 1) l) same ∙ ap (λ (number : ℕ). listBytes number (rankedPart (rowAt m rows s))) (add-one s)
 
   -- it is short, and fits where the street's record does
-  pub street-fits : (next : ℕ) (file : List ℕ) → m ≤ 64 → next + length (streetBytes m rows s) ≤ length file
-      → (length list ≤ 64) × (next + length (listBytes (s + 1) list) ≤ length file)
+  pub street-fits : (next : ℕ) (file : List ℕ) → m ≤ mostSites → next + length (streetBytes m rows s) ≤ length file
+      → (length list ≤ mostSites) × (next + length (listBytes (s + 1) list) ≤ length file)
   street-fits next file few room = (omega (arith, ap length same, list-short m rows s), omega (arith, ap length street-is))
 
   -- written, it is the street's record
@@ -72,16 +56,16 @@ module _ (m : ℕ) (rows : List ℕ) (s : ℕ) (list : List ℕ) (same : list �
 -- the sum after the first s streets
 pub record Sized (m : ℕ) (rows : List ℕ) (s size : ℕ) : Type 0 where
   pub right : size ≡ 11 + 2 * m + length (joined s (streetBytes m rows))
-  pub small : size ≤ 139 + s * 69
+  pub small : size ≤ 11 + 2 * mostSites + s * (5 + mostSites)
 
 -- it starts with all but the streets
-pub sized-none : (m : ℕ) (rows : List ℕ) → m ≤ 64 → Sized m rows 0 (11 + 2 * m)
+pub sized-none : (m : ℕ) (rows : List ℕ) → m ≤ mostSites → Sized m rows 0 (11 + 2 * m)
 unfolding joined
 sized-none m rows few = record { right = omega arith; small = omega arith }
 
 module _ {m : ℕ} {rows : List ℕ} {s size : ℕ} (h : Sized m rows s size) where
   -- one street more
-  pub sized-more : (list : List ℕ) → m ≤ 64 → list ≡ listOfStreet m rows s → Sized m rows (s + 1) (size + 5 + length list)
+  pub sized-more : (list : List ℕ) → m ≤ mostSites → list ≡ rankedPart (rowAt m rows s) → Sized m rows (s + 1) (size + 5 + length list)
   sized-more list few same =
       let next = ap length (joined-next (streetBytes m rows) s) ∙ length-append (joined s (streetBytes m rows)) (streetBytes m rows s) in
       record {
@@ -90,13 +74,15 @@ module _ {m : ℕ} {rows : List ℕ} {s size : ℕ} (h : Sized m rows s size) wh
       }
 
   -- all streets
-  pub sized-all : (n : ℕ) → n ≤ s → s ≤ n → (k kind : ℕ) (scores : List ℕ) → size ≡ length (encode n m k kind scores rows)
-  sized-all n a b k kind scores = omega (arith, rw (le-antisymm b a) at (h .right), records-length n m k kind scores rows, scores-length m scores)
+  pub sized-all : (n : ℕ) → n ≤ s → s ≤ n → (k kind : ℕ) (scores : List ℕ) → size ≡ length (encode (townOf n m scores rows) k kind)
+  sized-all n a b k kind scores =
+      omega (arith, rw (le-antisymm b a) at (h .right), records-length (townOf n m scores rows) k kind, scores-length m scores)
 
 -- ---- the file
 -- its records, written one behind the other, are the file
-pub encode-written : (n m k kind : ℕ) (scores rows : List ℕ) {before a b c after : List ℕ} {i j l next : ℕ}
-    → Written before 0 (townBytes n m k kind) a i → Written a i (scoresBytes m scores) b j
-    → Written b j (joined n (streetBytes m rows)) c l → Written c l (word endMark) after next → after ≡ laid before 0 (encode n m k kind scores rows)
+pub encode-written : (t : Town) (k kind : ℕ) {before a b c after : List ℕ} {i j l next : ℕ}
+    → Written before 0 (townBytes (t .n) (t .m) k kind) a i → Written a i (scoresBytes (t .m) (t .scores)) b j
+    → Written b j (joined (t .n) (streetBytes (t .m) (t .rows))) c l → Written c l (word endMark) after next
+    → after ≡ fileWritten t k kind before
 unfolding encode
-encode-written n m k kind scores rows town table streets mark = (written-next (written-next (written-next town table) streets) mark) .right
+encode-written t k kind town table streets mark = (written-next (written-next (written-next town table) streets) mark) .right

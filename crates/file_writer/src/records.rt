@@ -1,12 +1,13 @@
 // The records of a survey file, each written into a buffer from an index on. Each function gives back the index behind what it wrote.
+use byte_writer::write_list;
 use survey::rows;
 ghost use mathlib.Core.Path.{_≡_};
 ghost use Prim.Native.Nat.{_+_, _*_, _≤_};
 ghost use lib.ListN.{length};
-ghost use Rattle.counting.specs.Buffers.{joined};
-ghost use Rattle.survey.specs.Rows.{listOfStreet};
+ghost use Rattle.counting.specs.Bounds.{mostStreets, mostSites};
+ghost use Rattle.counting.specs.Buffers.{joined, Written};
+ghost use Rattle.survey.specs.Rows.{rowAt, rankedPart};
 ghost use Rattle.survey_file.specs.Encode.{word, townBytes, scoresBytes, listBytes, streetBytes};
-ghost use Rattle.file_writer.specs.Written.{Written};
 
 // The marks: the letters TN, SC, ST and EN as 16-bit numbers.
 const TOWN: u16 = 0x4E54;
@@ -27,22 +28,9 @@ pub fn write_word(x: u16, file: &mut [u8], i: usize) -> usize
     i + 2
 }
 
-// The bytes of a list: sites, a byte each, or a text.
-pub fn write_list(list: &[u8], file: &mut [u8], i: usize) -> usize
-    requires { ⌜ i + length (now list) ≤ length (now file) ⌝ }
-    ensures { λ r. ⌜ Written (now (file .entry)) i (now (list .entry)) (now (file .exit)) r ⌝ }
-{
-    let mut next = i;
-    for j in 0..list.len() {
-        file[next] = list[j];
-        next = next + 1;
-    }
-    next
-}
-
 // The record TN: the sizes and the kind.
 pub fn write_town(n: usize, m: usize, k: usize, kind: usize, file: &mut [u8], i: usize) -> usize
-    requires { ⌜ (n ≤ 400) × (m ≤ 64) × (k ≤ 64) × (kind ≤ 1) × (i + 7 ≤ length (now file)) ⌝ }
+    requires { ⌜ (n ≤ mostStreets) × (m ≤ mostSites) × (k ≤ mostSites) × (kind ≤ 1) × (i + 7 ≤ length (now file)) ⌝ }
     ensures { λ r. ⌜ Written (now (file .entry)) i (townBytes n m k kind) (now (file .exit)) r ⌝ }
 {
     let behind_mark = write_word(TOWN, file, i);
@@ -68,7 +56,7 @@ pub fn write_scores(m: usize, scores: &[u16], file: &mut [u8], i: usize) -> usiz
 // The list of a street, out of its row.
 pub fn list_of(m: usize, rows: &[u8], s: usize) -> &[u8]
     requires { ⌜ s * m + m ≤ length (now rows) ⌝ }
-    ensures { λ r. ⌜ now r ≡ listOfStreet m (now (rows .entry)) s ⌝ }
+    ensures { λ r. ⌜ now r ≡ rankedPart (rowAt m (now (rows .entry)) s) ⌝ }
 {
     let from = s * m;
     let to = from + m;
@@ -77,7 +65,7 @@ pub fn list_of(m: usize, rows: &[u8], s: usize) -> &[u8]
 
 // The record ST of a street: its number, the length of its list, and the list.
 fn write_street(number: u16, list: &[u8], file: &mut [u8], i: usize) -> usize
-    requires { ⌜ (length (now list) ≤ 64) × (i + length (listBytes number (now list)) ≤ length (now file)) ⌝ }
+    requires { ⌜ (length (now list) ≤ mostSites) × (i + length (listBytes number (now list)) ≤ length (now file)) ⌝ }
     ensures { λ r. ⌜ Written (now (file .entry)) i (listBytes number (now (list .entry))) (now (file .exit)) r ⌝ }
 {
     let behind_mark = write_word(STREET, file, i);
@@ -88,7 +76,7 @@ fn write_street(number: u16, list: &[u8], file: &mut [u8], i: usize) -> usize
 
 // The records of all streets, in their order and numbered from 1.
 pub fn write_streets(n: usize, m: usize, rows: &[u8], file: &mut [u8], i: usize) -> usize
-    requires { ⌜ (n ≤ 400) × (m ≤ 64) × (length (now rows) ≡ n * m) × (i + length (joined n (streetBytes m (now rows))) ≤ length (now file)) ⌝ }
+    requires { ⌜ (n ≤ mostStreets) × (m ≤ mostSites) × (length (now rows) ≡ n * m) × (i + length (joined n (streetBytes m (now rows))) ≤ length (now file)) ⌝ }
     ensures { λ r. ⌜ Written (now (file .entry)) i (joined n (streetBytes m (now (rows .entry)))) (now (file .exit)) r ⌝ }
 {
     let mut next = i;

@@ -9,8 +9,8 @@ use native.Mathlib.Decide.{decLt}
 use native.Mathlib.Omega.{arith}
 use lib.ListN.{length, set, length-append}
 use borrow.Author.Tests.{lt-ltb, le-ltb}
-use Rattle.file_writer.specs.Written.{Written}
-use Rattle.file_writer.proofs.Laying.{written-byte}
+use Rattle.counting.specs.Buffers.{Written}
+use Rattle.counting.proofs.Laying.{written-byte}
 use Rattle.listing.specs.Listing.{digit, digits, decimal}
 use Rattle.listing.proofs.Rooms.{front-room, byte-room, byte-written}
 
@@ -60,7 +60,8 @@ one-written out i x l room = rw (decimal-one x l) (written-byte out i (digit x) 
 pub tenth-room : (x i n : ℕ) → 10 ≤ x → i + length (decimal x) ≤ n → i + length (decimal (x / 10)) ≤ n
 tenth-room x i n l room = front-room i n (decimal (x / 10)) (digit (x % 10) ∷ []) (rw (decimal-more x l) at room)
 
-module _ {out : List ℕ} {i x : ℕ} {middle : List ℕ} {j : ℕ} (l : 10 ≤ x) (room : i + length (decimal x) ≤ length out) (tenth : Written out i (decimal (x / 10)) middle j) where
+module _ {out : List ℕ} {i x : ℕ} {middle : List ℕ} {j : ℕ} (l : 10 ≤ x) (room : i + length (decimal x) ≤ length out)
+    (tenth : Written out i (decimal (x / 10)) middle j) where
   pub last-room : j < length middle
   last-room = byte-room (digit (x % 10)) tenth (rw (decimal-more x l) at room)
 

@@ -1,13 +1,12 @@
 -- Room for parts that are written one behind the other, from the room for all of them.
 -- Assumes nothing.
-use mathlib.Core.Path.{_≡_, sym, subst}
+use mathlib.Core.Path.{_≡_, subst}
 use mathlib.Core.List.{List, [], _∷_, _++_}
 use Prim.Native.Nat.{ℕ, _+_, _≤_, _<_}
 use native.Mathlib.Omega.{arith}
-use lib.ListN.{length, take, set, replicate, length-append, length-replicate}
-use lib.Seq.{length-take-le}
-use Rattle.file_writer.specs.Written.{Written}
-use Rattle.file_writer.proofs.Laying.{written-size, written-byte, written-next}
+use lib.ListN.{length, set, length-append}
+use Rattle.counting.specs.Buffers.{Written}
+use Rattle.counting.proofs.Laying.{written-size, written-byte, written-next}
 
 -- a text from the start on
 pub start-room : (n : ℕ) (x : List ℕ) → length x ≤ n → 0 + length x ≤ n
@@ -23,7 +22,8 @@ pub next-room : {before : List ℕ} {i : ℕ} {x middle : List ℕ} {j : ℕ} (y
 next-room {x = x} y first l = omega (arith, first .behind, written-size first, length-append x y)
 
 -- a byte that is stored behind what is written
-module _ {before : List ℕ} {i : ℕ} {x middle : List ℕ} {j : ℕ} (y : ℕ) (first : Written before i x middle j) (room : i + length (x ++ (y ∷ [])) ≤ length before) where
+module _ {before : List ℕ} {i : ℕ} {x middle : List ℕ} {j : ℕ} (y : ℕ) (first : Written before i x middle j)
+    (room : i + length (x ++ (y ∷ [])) ≤ length before) where
   pub byte-room : j < length middle
   byte-room = omega (arith, next-room (y ∷ []) first room)
 
@@ -33,7 +33,3 @@ module _ {before : List ℕ} {i : ℕ} {x middle : List ℕ} {j : ℕ} (y : ℕ)
 -- the same text under another name
 pub written-same : {before : List ℕ} {i : ℕ} {x y after : List ℕ} {j : ℕ} → x ≡ y → Written before i x after j → Written before i y after j
 written-same {before} {i} {x} {y} {after} {j} e w = subst (λ (z : List ℕ). Written before i z after j) e w
-
--- the front of a fresh buffer
-pub blank-part : (k size : ℕ) → k ≤ size → k ≡ length {A = ℕ} (take k (replicate size 0))
-blank-part k size l = sym (length-take-le k (replicate size 0) (rw (length-replicate {A = ℕ} size 0) l))

@@ -6,9 +6,8 @@ use Prim.Native.Nat.{ℕ, suc, _+_, _≤_}
 use native.Mathlib.Numerals.{add-one}
 use lib.ListN.{length}
 use Rattle.counting.specs.Lists.{at}
-use Rattle.counting.specs.Buffers.{joined}
-use Rattle.survey.specs.Rows.{rowOf, placeOf}
-use Rattle.file_writer.specs.Written.{Written}
+use Rattle.counting.specs.Buffers.{joined, Written}
+use Rattle.survey.specs.Rows.{rowAt, placeOf}
 use Rattle.listing.specs.Listing.{spaced, line, streetWord, streetLine}
 use Rattle.listing.proofs.Rooms.{written-same}
 
@@ -23,15 +22,16 @@ line-three : (a b c : ℕ) → line streetWord (a ∷ b ∷ c ∷ []) ≡ threeL
 unfolding joined
 line-three a b c = refl
 
-module _ (m : ℕ) (rows division : List ℕ) (s place : ℕ) (found : place ≡ placeOf (rowOf m rows s) (at division s)) where
+module _ (m : ℕ) (rows division : List ℕ) (s place : ℕ) (found : place ≡ placeOf (rowAt m rows s) (at division s)) where
   street-parts : streetLine m rows division s ≡ threeLine (s + 1) (at division s) place
   street-parts =
-      line-three (suc s) (at division s) (placeOf (rowOf m rows s) (at division s))
-      ∙ ap (λ (x : ℕ). threeLine x (at division s) (placeOf (rowOf m rows s) (at division s))) (sym (add-one s))
+      line-three (suc s) (at division s) (placeOf (rowAt m rows s) (at division s))
+      ∙ ap (λ (x : ℕ). threeLine x (at division s) (placeOf (rowAt m rows s) (at division s))) (sym (add-one s))
       ∙ ap (λ (x : ℕ). threeLine (s + 1) (at division s) x) (sym found)
 
   pub street-room : (i n : ℕ) → i + length (streetLine m rows division s) ≤ n → i + length (threeLine (s + 1) (at division s) place) ≤ n
   street-room i n room = subst (λ (x : List ℕ). i + length x ≤ n) street-parts room
 
-  pub street-written : {out after : List ℕ} {i j : ℕ} → Written out i (threeLine (s + 1) (at division s) place) after j → Written out i (streetLine m rows division s) after j
+  pub street-written : {out after : List ℕ} {i j : ℕ} → Written out i (threeLine (s + 1) (at division s) place) after j
+      → Written out i (streetLine m rows division s) after j
   street-written = written-same (sym street-parts)

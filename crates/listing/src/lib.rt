@@ -1,15 +1,13 @@
 // The listing of a plan, line by line, each written into a buffer from an index on. Each function gives back the index behind what it wrote.
-use file_writer::records;
+use byte_writer::write_list;
 use survey::rows;
 ghost use mathlib.Core.Path.{_≡_};
 ghost use mathlib.Core.List.{[], _∷_};
 ghost use Prim.Native.Nat.{_+_, _*_, _≤_, _<_};
 ghost use lib.ListN.{length};
-ghost use Rattle.counting.specs.Lists.{at};
-ghost use Rattle.counting.specs.Buffers.{joined};
-ghost use Rattle.survey.specs.Rows.{rowOf, placeOf};
-ghost use Rattle.file_writer.specs.Written.{Written};
-ghost use Rattle.listing.specs.Listing.{decimal, spaced, line, sitesWord, streetLine, listing};
+ghost use Rattle.counting.specs.Buffers.{Written};
+ghost use Rattle.survey.specs.Rows.{rowAt, placeOf};
+ghost use Rattle.listing.specs.Listing.{decimal, spaced, numbersText, line, sitesWord, streetLine, streetLines, listing};
 
 // A number in decimal; 48 is the digit 0.
 fn write_decimal(x: usize, out: &mut [u8], i: usize) -> usize
@@ -39,7 +37,7 @@ pub fn write_line(word: &[u8], x: usize, out: &mut [u8], i: usize) -> usize
     requires { ⌜ i + length (line (now word) (x ∷ [])) ≤ length (now out) ⌝ }
     ensures { λ r. ⌜ Written (now (out .entry)) i (line (now (word .entry)) (x ∷ [])) (now (out .exit)) r ⌝ }
 {
-    let behind_word = records::write_list(word, out, i);
+    let behind_word = write_list(word, out, i);
     let next = write_spaced(x, out, behind_word);
     out[next] = b'\n';
     next + 1
@@ -47,8 +45,8 @@ pub fn write_line(word: &[u8], x: usize, out: &mut [u8], i: usize) -> usize
 
 // The sites of a list, in their order.
 fn write_sites(sites: &[u8], out: &mut [u8], i: usize) -> usize
-    requires { ⌜ i + length (joined (length (now sites)) (λ j. spaced (at (now sites) j))) ≤ length (now out) ⌝ }
-    ensures { λ r. ⌜ Written (now (out .entry)) i (joined (length (now (sites .entry))) (λ j. spaced (at (now (sites .entry)) j))) (now (out .exit)) r ⌝ }
+    requires { ⌜ i + length (numbersText (now sites)) ≤ length (now out) ⌝ }
+    ensures { λ r. ⌜ Written (now (out .entry)) i (numbersText (now (sites .entry))) (now (out .exit)) r ⌝ }
 {
     let mut next = i;
     for j in 0..sites.len() {
@@ -62,7 +60,7 @@ fn write_chosen(sites: &[u8], out: &mut [u8], i: usize) -> usize
     requires { ⌜ i + length (line sitesWord (now sites)) ≤ length (now out) ⌝ }
     ensures { λ r. ⌜ Written (now (out .entry)) i (line sitesWord (now (sites .entry))) (now (out .exit)) r ⌝ }
 {
-    let behind_word = records::write_list(b"sites", out, i);
+    let behind_word = write_list(b"sites", out, i);
     let next = write_sites(sites, out, behind_word);
     out[next] = b'\n';
     next + 1
@@ -71,7 +69,7 @@ fn write_chosen(sites: &[u8], out: &mut [u8], i: usize) -> usize
 // The place that a street gives a site.
 fn place_of(m: usize, rows: &[u8], s: usize, site: u8) -> usize
     requires { ⌜ s * m + m ≤ length (now rows) ⌝ }
-    ensures { λ r. ⌜ r ≡ placeOf (rowOf m (now (rows .entry)) s) site ⌝ }
+    ensures { λ r. ⌜ r ≡ placeOf (rowAt m (now (rows .entry)) s) site ⌝ }
 {
     let from = s * m;
     let to = from + m;
@@ -86,7 +84,7 @@ fn write_street(m: usize, rows: &[u8], division: &[u8], s: usize, out: &mut [u8]
 {
     let site = division[s];
     let place = place_of(m, rows, s, site);
-    let behind_word = records::write_list(b"street", out, i);
+    let behind_word = write_list(b"street", out, i);
     let behind_number = write_spaced(s + 1, out, behind_word);
     let behind_site = write_spaced(site as usize, out, behind_number);
     let next = write_spaced(place, out, behind_site);
@@ -97,8 +95,8 @@ fn write_street(m: usize, rows: &[u8], division: &[u8], s: usize, out: &mut [u8]
 // The lines of all streets.
 fn write_streets(m: usize, rows: &[u8], division: &[u8], out: &mut [u8], i: usize) -> usize
     requires { ⌜ length (now division) * m ≤ length (now rows) ⌝ }
-    requires { ⌜ i + length (joined (length (now division)) (streetLine m (now rows) (now division))) ≤ length (now out) ⌝ }
-    ensures { λ r. ⌜ Written (now (out .entry)) i (joined (length (now (division .entry))) (streetLine m (now (rows .entry)) (now (division .entry)))) (now (out .exit)) r ⌝ }
+    requires { ⌜ i + length (streetLines m (now rows) (now division)) ≤ length (now out) ⌝ }
+    ensures { λ r. ⌜ Written (now (out .entry)) i (streetLines m (now (rows .entry)) (now (division .entry))) (now (out .exit)) r ⌝ }
 {
     let mut next = i;
     for s in 0..division.len() {

@@ -9,9 +9,11 @@ use borrow.Author.Tests.{ltb-false}
 use Rattle.counting.specs.Words.{_orElse_, firstOf}
 use Rattle.counting.specs.Lists.{at}
 use Rattle.counting.proofs.Refusals.{or-zero, when-zero, exact, first-none}
+use Rattle.survey.specs.Town.{town}
 use Rattle.survey.specs.Refusals.{streetsRefusal, sitesRefusal, chosenRefusal, kindRefusal, scoresRefusal}
 use Rattle.survey_file.specs.Encode.{townMark, scoresMark, streetMark, endMark}
-use Rattle.survey_file.specs.Decode.{wordAt, markRefusal, townFields, scoresIn, scoresFields, listIn, streetFields, endFields, past, streetRecord, streetsAndEnd, streetsIn, sitesIn, chosenIn, kindIn, scoresPart, streetsPart, fileRefusal}
+use Rattle.survey_file.specs.Decode.{wordAt, markRefusal, townFields, scoresIn, scoresFields, listIn, streetFields, endFields, past}
+use Rattle.survey_file.specs.Decode.{streetRecord, streetsAndEnd, streetsIn, sitesIn, chosenIn, kindIn, scoresPart, streetsPart, fileRefusal}
 use Rattle.survey_file.proofs.Tries.{short-says, mark-says}
 use Rattle.survey_file.proofs.Rows.{SoundList, list-says}
 
@@ -45,7 +47,7 @@ pub record EndRead (rest : List ℕ) : Type 0 where
   pub last : length rest ≤ 2
 
 -- of the file
-pub record FileRead (file : List ℕ) : Type 0 where
+pub record FileSays (file : List ℕ) : Type 0 where
   pub town : TownRead file
   pub scores : ScoresRead (sitesIn file) (scoresPart file)
   pub street : (i : ℕ) → i < streetsIn file → StreetRead (sitesIn file) (suc i) (past (streetsPart file) i)
@@ -92,7 +94,7 @@ end-says rest e =
     record { marked = due; whole = room; last = ltb-false 2 (length rest) (when-zero 16 (ltb 2 (length rest)) (lit< tt) e₁) }
 
 -- those of the whole file
-pub file-says : (file : List ℕ) → fileRefusal file ≡ 0 → FileRead file
+pub file-says : (file : List ℕ) → fileRefusal file ≡ 0 → FileSays file
 unfolding fileRefusal
 file-says file e =
     let n : ℕ = streetsIn file in

@@ -30,7 +30,8 @@ mark-front : (rest : List ℕ) (due : ℕ) → Bytes rest → 2 ≤ length rest 
 mark-front rest due bytes room e = word-front rest 0 bytes room ∙ ap (λ (x : ℕ). word x ++ drop 2 rest) e
 
 -- TN is the town's record written again
-pub town-front : (file : List ℕ) → Bytes file → TownRead file → file ≡ townBytes (streetsIn file) (sitesIn file) (chosenIn file) (kindIn file) ++ scoresPart file
+pub town-front : (file : List ℕ) → Bytes file → TownRead file
+    → file ≡ townBytes (streetsIn file) (sitesIn file) (chosenIn file) (kindIn file) ++ scoresPart file
 town-front file bytes ok =
     let room : 7 ≤ length file = ok .whole in
     let last : drop 6 file ≡ at file 6 ∷ drop 7 file = drop-cons file 6 0 room in
@@ -40,7 +41,8 @@ town-front file bytes ok =
     ∙ ap (λ (x : List ℕ). word townMark ++ (word (streetsIn file) ++ x)) three
 
 -- the first i numbers behind the mark SC
-words-front : (rest : List ℕ) → Bytes rest → (i : ℕ) → 2 + 2 * i ≤ length rest → drop 2 rest ≡ joined i (λ j. word (wordAt rest (2 + 2 * j))) ++ drop (2 + 2 * i) rest
+words-front : (rest : List ℕ) → Bytes rest → (i : ℕ) → 2 + 2 * i ≤ length rest
+    → drop 2 rest ≡ joined i (λ j. word (wordAt rest (2 + 2 * j))) ++ drop (2 + 2 * i) rest
 unfolding joined
 words-front rest bytes zero room = refl
 words-front rest bytes (suc i) room =
@@ -92,5 +94,6 @@ streets-front n m streets bytes ok zero l = refl
 streets-front n m streets bytes ok (suc i) l =
     let lists : ℕ → List ℕ = λ j. listBytes (suc j) (listIn (past streets j)) in
     let rest : List ℕ = past streets i in
-    streets-front n m streets bytes ok i (omega arith) ∙ ap (λ (x : List ℕ). joined i lists ++ x) (street-front m (suc i) rest (ok i l) (past-bytes streets i bytes))
+    streets-front n m streets bytes ok i (omega arith)
+    ∙ ap (λ (x : List ℕ). joined i lists ++ x) (street-front m (suc i) rest (ok i l) (past-bytes streets i bytes))
     ∙ sym (append-assoc (joined i lists) (lists i) (drop (5 + at rest 4) rest))

@@ -12,7 +12,7 @@ use Rattle.counting.specs.Words.{sumOf}
 use Rattle.counting.specs.Buffers.{joined}
 use Rattle.counting.proofs.Sums.{sumOf-same, sumOf-even}
 use Rattle.counting.proofs.Tables.{row-within}
-use Rattle.survey.specs.Rows.{rowOf}
+use Rattle.survey.specs.Rows.{rowAt}
 
 -- equal lists make the same list
 pub joined-same : (n : ℕ) (f g : ℕ → List ℕ) → ((i : ℕ) → i < n → f i ≡ g i) → joined n f ≡ joined n g
@@ -39,7 +39,7 @@ joined-split (suc n) f y i l =
     (λ k. let (z, q) = joined-split n f (f n ++ y) i k in (z, append-assoc (joined n f) (f n) y ∙ q)) (eq-or-lt-of-le (le-of-suc-le-suc l))
 
 -- of rows of m bytes the row i is the list i
-pub joined-row : (n m : ℕ) (f : ℕ → List ℕ) → ((i : ℕ) → i < n → length (f i) ≡ m) → (i : ℕ) → i < n → rowOf m (joined n f) i ≡ f i
+pub joined-row : (n m : ℕ) (f : ℕ → List ℕ) → ((i : ℕ) → i < n → length (f i) ≡ m) → (i : ℕ) → i < n → rowAt m (joined n f) i ≡ f i
 joined-row n m f h i l =
     let (z, q) = joined-split n f [] i l in
     let before : length (joined i f) ≡ i * m = joined-even i m f (λ j k. h j (omega arith)) in
@@ -48,17 +48,17 @@ joined-row n m f h i l =
     ∙ take-at (f i) z m (h i l)
 
 -- a row of a buffer of n rows has m bytes
-pub row-size : (n m : ℕ) (rows : List ℕ) → length rows ≡ n * m → (i : ℕ) → i < n → length (rowOf m rows i) ≡ m
+pub row-size : (n m : ℕ) (rows : List ℕ) → length rows ≡ n * m → (i : ℕ) → i < n → length (rowAt m rows i) ≡ m
 row-size n m rows e i l = length-take-le m (drop (i * m) rows) (omega (arith, length-drop (i * m) rows, row-within n m i l))
 
 -- the first n rows of a buffer
-rows-front : (m : ℕ) (rows : List ℕ) (n : ℕ) → joined n (rowOf m rows) ≡ take (n * m) rows
+rows-front : (m : ℕ) (rows : List ℕ) (n : ℕ) → joined n (rowAt m rows) ≡ take (n * m) rows
 unfolding joined
 rows-front m rows zero = let none : 0 ≡ 0 * m = omega arith in ap (λ (x : ℕ). take x rows) none
 rows-front m rows (suc n) =
     let next : n * m + m ≡ suc n * m = omega arith in
-    ap (λ (x : List ℕ). x ++ rowOf m rows n) (rows-front m rows n) ∙ sym (take-add (n * m) m rows) ∙ ap (λ (x : ℕ). take x rows) next
+    ap (λ (x : List ℕ). x ++ rowAt m rows n) (rows-front m rows n) ∙ sym (take-add (n * m) m rows) ∙ ap (λ (x : ℕ). take x rows) next
 
 -- a buffer is its rows
-pub rows-joined : (n m : ℕ) (rows : List ℕ) → length rows ≡ n * m → joined n (rowOf m rows) ≡ rows
+pub rows-joined : (n m : ℕ) (rows : List ℕ) → length rows ≡ n * m → joined n (rowAt m rows) ≡ rows
 rows-joined n m rows e = rows-front m rows n ∙ ap (λ (x : ℕ). take x rows) (sym e) ∙ take-length rows

@@ -18,7 +18,8 @@ use Rattle.counting.specs.Lists.{at, has}
 use Rattle.counting.proofs.Refusals.{or-zero, when-zero, when-none, within, unless-none, unless-is, first-none, first-zeros}
 use Rattle.counting.proofs.Membership.{cond-at, has-none}
 use Rattle.counting.proofs.Sums.{has-at, at-past}
-use Rattle.survey.specs.Rows.{rowOf, rankedPart, listOfStreet}
+use Rattle.survey.specs.Town.{Town}
+use Rattle.survey.specs.Rows.{rankedPart, rowOf, listOfStreet}
 use Rattle.survey.specs.Refusals.{byteRefusal, rowRefusal}
 use Rattle.survey.specs.Accepted.{SoundRow, Accepted}
 use Rattle.survey.proofs.Places.{ranked-sites}
@@ -61,7 +62,8 @@ ranked-zeros (b ∷ row) h =
         let whole : suc (length row) ≡ suc (length row) - 0 = omega arith in
         all-zeros (b ∷ row) (zeros e) ∙ ap (λ (x : ℕ). replicate x 0) whole
 
-    more : row ≡ rankedPart row ++ replicate (length row - length (rankedPart row)) 0 → row ≡ rankedPart row ++ replicate (suc (length row) - suc (length (rankedPart row))) 0
+    more : row ≡ rankedPart row ++ replicate (length row - length (rankedPart row)) 0
+        → row ≡ rankedPart row ++ replicate (suc (length row) - suc (length (rankedPart row))) 0
     more q =
         let back : length row - length (rankedPart row) ≡ suc (length row) - suc (length (rankedPart row)) = omega arith in
         q ∙ ap (λ (x : ℕ). rankedPart row ++ replicate x 0) back
@@ -188,21 +190,21 @@ module _ (m k : ℕ) (list : List ℕ) (sound : SoundList m list) where
   row-right = first-zeros (length row) (byteRefusal m row) (λ j l. by-cases (decLt j (length list)) (byte-within j) (λ h. byte-behind j (omega arith)))
 
 -- the lists and rows of an accepted survey
-module _ {n m : ℕ} {scores rows : List ℕ} (ok : Accepted n m scores rows) (i : ℕ) (l : i < n) where
+module _ {t : Town} (ok : Accepted t) (i : ℕ) (l : i < t .n) where
   -- a row has m bytes
-  size : length (rowOf m rows i) ≡ m
-  size = row-size n m rows (ok .rows-fit) i l
+  size : length (rowOf t i) ≡ t .m
+  size = row-size (t .n) (t .m) (t .rows) (ok .rows-fit) i l
 
   -- a list has at most m sites
-  pub street-short : length (listOfStreet m rows i) ≤ m
-  street-short = omega (arith, size, list-short m (rowOf m rows i) (ok .sound-rows i l))
+  pub street-short : length (listOfStreet t i) ≤ t .m
+  street-short = omega (arith, size, list-short (t .m) (rowOf t i) (ok .sound-rows i l))
 
   -- a record may hold it
-  pub street-sound : SoundList m (listOfStreet m rows i)
-  street-sound = list-sound m (rowOf m rows i) (ok .sound-rows i l)
+  pub street-sound : SoundList (t .m) (listOfStreet t i)
+  street-sound = list-sound (t .m) (rowOf t i) (ok .sound-rows i l)
 
   -- a row is the list and zeros
-  pub street-row : listOfStreet m rows i ++ replicate (m - length (listOfStreet m rows i)) 0 ≡ rowOf m rows i
+  pub street-row : listOfStreet t i ++ replicate (t .m - length (listOfStreet t i)) 0 ≡ rowOf t i
   street-row =
-      ap (λ (x : ℕ). listOfStreet m rows i ++ replicate (x - length (listOfStreet m rows i)) 0) (sym size)
-      ∙ sym (ranked-zeros (rowOf m rows i) (ok .sound-rows i l .closed))
+      ap (λ (x : ℕ). listOfStreet t i ++ replicate (x - length (listOfStreet t i)) 0) (sym size)
+      ∙ sym (ranked-zeros (rowOf t i) (ok .sound-rows i l .closed))

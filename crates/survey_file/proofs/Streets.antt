@@ -49,7 +49,8 @@ module _ (list : ℕ → List ℕ) where
         ap (λ (x : List ℕ). markRefusal streetMark x orElse streetFields m (suc i) x) q ∙ list-record (suc i) (list i) y m (short i l) (sound i l)
 
   -- n street records and the end behind them
-  pub streets-right : (n m : ℕ) → ((i : ℕ) → i < n → length (list i) ≤ m) → ((i : ℕ) → i < n → SoundList m (list i)) → streetsAndEnd n m (joined n bytes ++ word endMark) ≡ 0
+  pub streets-right : (n m : ℕ) → ((i : ℕ) → i < n → length (list i) ≤ m) → ((i : ℕ) → i < n → SoundList m (list i))
+      → streetsAndEnd n m (joined n bytes ++ word endMark) ≡ 0
   streets-right n m short sound =
       let all : List ℕ = joined n bytes ++ word endMark in
       both _ _ (first-zeros n (streetRecord m all) (record-at n (word endMark) m short sound))

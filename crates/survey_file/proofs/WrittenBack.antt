@@ -9,15 +9,18 @@ use lib.Seq.{drop-drop}
 use Rattle.counting.specs.Buffers.{joined}
 use Rattle.counting.proofs.Refusals.{first-zeros}
 use Rattle.counting.proofs.Sums.{listOf-length}
-use Rattle.survey.specs.Rows.{rowOf, rankedPart, listOfStreet}
+use Rattle.survey.specs.Rows.{rankedPart, rowOf, listOfStreet}
 use Rattle.survey.specs.Refusals.{kindRefusal, rowRefusal, streetRefusal, rowsRefusal, surveyRefusal}
+use Rattle.survey.specs.Accepted.{Accepted}
+use Rattle.survey.proofs.Sound.{accepted}
 use Rattle.survey_file.specs.Encode.{endMark, word, townBytes, scoresBytes, listBytes, streetBytes, encode}
-use Rattle.survey_file.specs.Decode.{wordAt, scoresIn, listIn, past, streetsIn, sitesIn, chosenIn, kindIn, scoresPart, streetsPart, fileRefusal, rowFrom, rowsIn}
+use Rattle.survey_file.specs.Decode.{wordAt, scoresIn, listIn, past, streetsIn, sitesIn, chosenIn, kindIn, scoresPart, streetsPart, fileRefusal}
+use Rattle.survey_file.specs.Decode.{rowFrom, rowsIn, townIn}
 use Rattle.survey_file.proofs.Tries.{both, as-due}
 use Rattle.survey_file.proofs.Joined.{joined-same, joined-even, joined-row}
 use Rattle.survey_file.proofs.Bytes.{Bytes}
 use Rattle.survey_file.proofs.Rows.{list-sites, ranked-list, row-right}
-use Rattle.survey_file.proofs.Accepting.{StreetRead, FileRead, file-says}
+use Rattle.survey_file.proofs.Accepting.{StreetRead, FileSays, file-says}
 use Rattle.survey_file.proofs.Fronts.{drop-bytes, past-bytes, town-front, scores-front, list-size, end-front, streets-front}
 
 -- a street's row has m bytes
@@ -45,15 +48,15 @@ module _ (file : List ℕ) (e : fileRefusal file ≡ 0) where
   scores = scoresIn m (scoresPart file)
 
   -- what the records show
-  ok : FileRead file
+  ok : FileSays file
   ok = file-says file e
 
   -- the row of each street is the one that its record gives
-  row-read : (i : ℕ) → i < n → rowOf m (rowsIn file) i ≡ rowFrom m (past streets i)
+  pub row-read : (i : ℕ) → i < streetsIn file → rowOf (townIn file) i ≡ rowFrom (sitesIn file) (past (streetsPart file) i)
   row-read = joined-row n m (λ i. rowFrom m (past streets i)) (λ i l. row-long m (suc i) (past streets i) (ok .street i l))
 
   -- the list of each street is the one of its record
-  list-read : (i : ℕ) → i < n → listOfStreet m (rowsIn file) i ≡ listIn (past streets i)
+  list-read : (i : ℕ) → i < n → listOfStreet (townIn file) i ≡ listIn (past streets i)
   list-read i l =
       let list : List ℕ = listIn (past streets i) in
       ap (λ (x : List ℕ). rankedPart x) (row-read i l) ∙ ranked-list list (m - length list) (list-sites m list (ok .street i l .sound))
@@ -65,11 +68,11 @@ module _ (file : List ℕ) (e : fileRefusal file ≡ 0) where
       let inner : Bytes streets = drop-bytes file (9 + 2 * m) bytes in
       streets-front n m streets inner (ok .street) n (omega arith)
       ∙ ap (λ (x : List ℕ). joined n lists ++ x) (end-front (past streets n) (past-bytes streets n inner) (ok .end))
-      ∙ ap (λ (x : List ℕ). x ++ word endMark) (joined-same n lists (streetBytes m (rowsIn file)) (λ i l. ap (λ (x : List ℕ). listBytes (suc i) x) (sym (list-read i l))))
+      ∙ ap (λ (x : List ℕ). x ++ word endMark)
+      (joined-same n lists (streetBytes m (rowsIn file)) (λ i l. ap (λ (x : List ℕ). listBytes (suc i) x) (sym (list-read i l))))
 
   -- an accepted file of bytes is the file of what is read from it
-  pub encode-decode : Bytes file →
-      encode (streetsIn file) (sitesIn file) (chosenIn file) (kindIn file) (scoresIn (sitesIn file) (scoresPart file)) (rowsIn file) ≡ file
+  pub encode-decode : Bytes file → encode (townIn file) (chosenIn file) (kindIn file) ≡ file
   unfolding encode
   encode-decode bytes =
       let town : List ℕ = townBytes n m (chosenIn file) (kindIn file) in
@@ -91,7 +94,7 @@ module _ (file : List ℕ) (e : fileRefusal file ≡ 0) where
       ap (λ (x : List ℕ). rowRefusal m x) (row-read i l) ∙ row-right m (m - length list) list (ok .street i l .sound))
 
   -- what is read is an accepted survey
-  pub decode-accepted : surveyRefusal (streetsIn file) (sitesIn file) (chosenIn file) (kindRefusal (kindIn file)) (scoresIn (sitesIn file) (scoresPart file)) (rowsIn file) ≡ 0
+  pub decode-accepted : surveyRefusal (townIn file) (chosenIn file) (kindRefusal (kindIn file)) ≡ 0
   decode-accepted =
       let table : length scores ≡ m = listOf-length m (λ i. wordAt (scoresPart file) (2 + 2 * i)) in
       let sizes : length (rowsIn file) ≡ n * m =
@@ -102,3 +105,7 @@ module _ (file : List ℕ) (e : fileRefusal file ≡ 0) where
       (both _ _ (ok .town .kind)
       (both _ _ (as-due 6 (length scores) m table)
       (both _ _ (as-due 6 (length (rowsIn file)) (n * m) sizes) (both _ _ (ok .scores .scores) rows-accepted))))))
+
+  -- so what holds of an accepted survey holds of its town
+  pub town-accepted : Accepted (townIn file)
+  town-accepted = accepted (townIn file) (chosenIn file) (kindRefusal (kindIn file)) decode-accepted

@@ -8,6 +8,7 @@ use lib.ListN.{length, take, drop, replicate}
 use Rattle.counting.specs.Words.{_when_, _unless_, _orElse_, firstOf, outside}
 use Rattle.counting.specs.Lists.{at, has}
 use Rattle.counting.specs.Buffers.{joined, listOf}
+use Rattle.survey.specs.Town.{Town, townOf}
 use Rattle.survey.specs.Refusals.{streetsRefusal, sitesRefusal, chosenRefusal, kindRefusal, scoresRefusal}
 use Rattle.survey_file.specs.Encode.{townMark, scoresMark, streetMark, endMark}
 
@@ -113,9 +114,13 @@ rowFrom m rest = listIn rest ++ replicate (m - length (listIn rest)) 0
 abbrev pub rowsIn : List ℕ → List ℕ
 rowsIn file = joined (streetsIn file) (λ i. rowFrom (sitesIn file) (past (streetsPart file) i))
 
--- what reading gives: a survey with its kind, or a refusal's number
+-- the town that a file holds
+abbrev pub townIn : List ℕ → Town
+townIn file = townOf (streetsIn file) (sitesIn file) (scoresIn (sitesIn file) (scoresPart file)) (rowsIn file)
+
+-- what reading gives: a town with the number of sites to choose and the kind of plan, or a refusal's number
 pub data Decoded : Type 0 where
-  Given : ℕ → ℕ → ℕ → ℕ → List ℕ → List ℕ → Decoded
+  Given : Town → ℕ → ℕ → Decoded
   Refused : ℕ → Decoded
 
 abbrev pub givenUnless : ℕ → Decoded → Decoded
@@ -124,6 +129,4 @@ givenUnless (suc x) given = Refused (suc x)
 
 unfoldable pub decode : List ℕ → Decoded
 unfolding fileRefusal
-decode file =
-    givenUnless (fileRefusal file)
-    (Given (streetsIn file) (sitesIn file) (chosenIn file) (kindIn file) (scoresIn (sitesIn file) (scoresPart file)) (rowsIn file))
+decode file = givenUnless (fileRefusal file) (Given (townIn file) (chosenIn file) (kindIn file))

@@ -5,7 +5,8 @@ use mathlib.Core.List.{List, [], _∷_, _++_}
 use lib.ListN.{length}
 use Rattle.counting.specs.Lists.{at}
 use Rattle.counting.specs.Buffers.{joined}
-use Rattle.survey.specs.Rows.{listOfStreet}
+use Rattle.survey.specs.Town.{Town}
+use Rattle.survey.specs.Rows.{rowAt, rankedPart}
 
 -- the marks as 16-bit numbers: the letters TN, SC, ST and EN
 abbrev pub townMark : ℕ
@@ -38,9 +39,13 @@ listBytes number list = word streetMark ++ word number ++ length list ∷ list
 
 -- the record ST of the street i, counted from 0; its number counts from 1
 abbrev pub streetBytes : ℕ → List ℕ → ℕ → List ℕ
-streetBytes m rows i = listBytes (suc i) (listOfStreet m rows i)
+streetBytes m rows i = listBytes (suc i) (rankedPart (rowAt m rows i))
 
--- the file of a survey with its kind
-unfoldable pub encode : ℕ → ℕ → ℕ → ℕ → List ℕ → List ℕ → List ℕ
-encode n m k kind scores rows =
-    townBytes n m k kind ++ scoresBytes m scores ++ joined n (streetBytes m rows) ++ word endMark
+-- the file of a town, with the number of sites to choose and the kind of plan
+unfoldable pub encode : Town → ℕ → ℕ → List ℕ
+encode t k kind =
+    townBytes (t .n) (t .m) k kind ++ scoresBytes (t .m) (t .scores) ++ joined (t .n) (streetBytes (t .m) (t .rows)) ++ word endMark
+
+-- the bytes of the longest file: 11, 2 for each of 64 scores, and 5 and a list of 64 sites for each of 400 streets
+abbrev pub mostFile : ℕ
+mostFile = 27739

@@ -1,7 +1,7 @@
 -- `file_filling::entry` meets its contract. Assumes nothing.
 use borrow.Author.Needs.{needs}
 use native.Mathlib.Omega.{arith}
-use Rattle.file_filling.proofs.Filled.{entry-none, entry-some}
+use Rattle.file_filling.proofs.FilledFronts.{entry-none, entry-some}
 use Rattle.file_filling.proofs.entry.Statement.{statement}
 use Rattle.file_filling.proofs.entry.Tie as tie
 

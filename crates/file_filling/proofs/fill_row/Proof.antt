@@ -8,7 +8,7 @@ use Rattle.counting.specs.Lists.{at}
 use Rattle.counting.specs.Buffers.{Mapped}
 use Rattle.counting.proofs.Filling.{mapped-none, mapped-more, mapped-end}
 use Rattle.survey_file.specs.Decode.{listIn}
-use Rattle.file_filling.proofs.Filled.{list-of}
+use Rattle.file_filling.proofs.FilledFronts.{list-of}
 use Rattle.file_filling.proofs.fill_row.Statement.{statement}
 use Rattle.file_filling.proofs.fill_row.Tie as tie
 

@@ -30,7 +30,10 @@ slice-write-scores : tie.Need-slice-write-scores Inv-loop μ-loop
 slice-write-scores c = let l = c .before .before .loop in omega (arith, l .inv .1 .size, c .before .before .before .before .before .pre .1)
 
 loop-again : tie.Need-loop-again Inv-loop μ-loop
-loop-again c = let l = c .before .before .loop in (omega arith, mapped-more _ _ (l .scores) (l .i) _ (omega (arith, c .before .before .before .before .before .pre .1)) (l .inv .1) (c .word-at .ensures .0))
+loop-again c =
+    let l = c .before .before .loop in
+    let room = c .before .before .before .before .before .pre .1 in
+    (omega arith, mapped-more _ _ (l .scores) (l .i) _ (omega arith) (l .inv .1) (c .word-at .ensures .0))
 
 same-length : tie.Need-same-length Inv-loop μ-loop
 same-length c = let l = c .before .loop in omega (arith, l .inv .1 .size)

@@ -4,7 +4,7 @@ use borrow.Fn.Kinds.{In}
 use borrow.Fn.PlainCycle.{Measures, is, falls, and}
 use native.Mathlib.Omega.{arith}
 use Prim.Native.Nat.{ℕ, _<_}
-use Rattle.file_writer.proofs.Laying.{written-size}
+use Rattle.counting.proofs.Laying.{written-size}
 use Rattle.listing.proofs.Decimals.{one-room, one-written, tenth-room, last-room, last-written}
 use Rattle.listing.proofs.write_decimal.Reads as write-decimal
 use Rattle.listing.proofs.write_decimal.Kinds as write-decimal-kinds
@@ -33,59 +33,50 @@ write-decimal-below t =
 abbrev claims : ℕ → write-decimal-lts.Claims
 claims t = (write-decimal-below t, write-decimal.Post)
 
-write-decimal-add-out : (t : ℕ) → write-decimal-lts.Need-add-out (claims t) (write-decimal-at t) write-decimal.Post
-write-decimal-add-out t c = search needs
-
-write-decimal-cast-out : (t : ℕ) → write-decimal-lts.Need-cast-out (claims t) (write-decimal-at t) write-decimal.Post
-write-decimal-cast-out t c = search needs
-
+-- a number below 10 is a byte
 write-decimal-slice-write-out : (t : ℕ) → write-decimal-lts.Need-slice-write-out (claims t) (write-decimal-at t) write-decimal.Post
-write-decimal-slice-write-out t c = one-room (c .before .before .args .x) (c .before .before .args .i) _ (c .if1 .taken) (c .before .before .pre .1)
-
-write-decimal-add-result : (t : ℕ) → write-decimal-lts.Need-add-result (claims t) (write-decimal-at t) write-decimal.Post
-write-decimal-add-result t c = search needs
-
-write-decimal-same-length : (t : ℕ) → write-decimal-lts.Need-same-length (claims t) (write-decimal-at t) write-decimal.Post
-write-decimal-same-length t c = search needs
+write-decimal-slice-write-out t c =
+    let i = c .before .before in
+    one-room (i .args .x) (i .args .i) _ (c .if1 .taken) (i .pre .1)
 
 write-decimal-returns : (t : ℕ) → write-decimal-lts.Need-returns (claims t) (write-decimal-at t) write-decimal.Post
-write-decimal-returns t c = let a = c .before .before .args in one-written (a .out .now) (a .i) (a .x) (c .if1 .taken) (c .before .before .pre .1)
+write-decimal-returns t c =
+    let i = c .before .before in
+    one-written (i .args .out .now) (i .args .i) (i .args .x) (c .if1 .taken) (i .pre .1)
 
+-- another is a byte behind its tenth
 write-decimal-write-decimal-requires : (t : ℕ) → write-decimal-lts.Need-write-decimal-requires (claims t) (write-decimal-at t) write-decimal.Post
-write-decimal-write-decimal-requires t c κs = let a = c .before .before .before .args in (omega arith, tenth-room (a .x) (a .i) _ (c .before .if1 .left) (c .before .before .before .pre .1))
-
-write-decimal-add-out-2 : (t : ℕ) → write-decimal-lts.Need-add-out-2 (claims t) (write-decimal-at t) write-decimal.Post
-write-decimal-add-out-2 t c = search needs
-
-write-decimal-cast-out-2 : (t : ℕ) → write-decimal-lts.Need-cast-out-2 (claims t) (write-decimal-at t) write-decimal.Post
-write-decimal-cast-out-2 t c = search needs
+write-decimal-write-decimal-requires t c κs =
+    let a = c .before .before .before .args in
+    (omega arith, tenth-room (a .x) (a .i) _ (c .before .if1 .left) (c .before .before .before .pre .1))
 
 write-decimal-slice-write-out-2 : (t : ℕ) → write-decimal-lts.Need-slice-write-out-2 (claims t) (write-decimal-at t) write-decimal.Post
-write-decimal-slice-write-out-2 t c = last-room (c .before .before .before .before .if1 .left) (c .before .before .before .before .before .before .pre .1) (c .before .before .write-decimal .ensures)
-
-write-decimal-add-result-2 : (t : ℕ) → write-decimal-lts.Need-add-result-2 (claims t) (write-decimal-at t) write-decimal.Post
-write-decimal-add-result-2 t c = search needs
-
-write-decimal-same-length-2 : (t : ℕ) → write-decimal-lts.Need-same-length-2 (claims t) (write-decimal-at t) write-decimal.Post
-write-decimal-same-length-2 t c = written-size (last-written (c .before .before .before .before .if1 .left) (c .before .before .before .before .before .before .pre .1) (c .before .before .write-decimal .ensures))
+write-decimal-slice-write-out-2 t c =
+    let i = c .before .before .before .before in
+    last-room (i .if1 .left) (i .before .before .pre .1) (c .before .before .write-decimal .ensures)
 
 write-decimal-returns-2 : (t : ℕ) → write-decimal-lts.Need-returns-2 (claims t) (write-decimal-at t) write-decimal.Post
-write-decimal-returns-2 t c = last-written (c .before .before .before .before .if1 .left) (c .before .before .before .before .before .before .pre .1) (c .before .before .write-decimal .ensures)
+write-decimal-returns-2 t c =
+    let i = c .before .before .before .before in
+    last-written (i .if1 .left) (i .before .before .pre .1) (c .before .before .write-decimal .ensures)
+
+write-decimal-same-length-2 : (t : ℕ) → write-decimal-lts.Need-same-length-2 (claims t) (write-decimal-at t) write-decimal.Post
+write-decimal-same-length-2 t c = written-size (write-decimal-returns-2 t c)
 
 pub +write-decimal-spec : {M : Type 1} → statement M
 +write-decimal-spec = close μ-write-decimal λ t. write-decimal-lts.spec (claims t)
     (write-decimal-at t)
     write-decimal.Post
-    (write-decimal-add-out t)
-    (write-decimal-cast-out t)
+    (λ c. search needs)
+    (λ c. search needs)
     (write-decimal-slice-write-out t)
-    (write-decimal-add-result t)
-    (write-decimal-same-length t)
+    (λ c. search needs)
+    (λ c. search needs)
     (write-decimal-returns t)
     (write-decimal-write-decimal-requires t)
-    (write-decimal-add-out-2 t)
-    (write-decimal-cast-out-2 t)
+    (λ c. search needs)
+    (λ c. search needs)
     (write-decimal-slice-write-out-2 t)
-    (write-decimal-add-result-2 t)
+    (λ c. search needs)
     (write-decimal-same-length-2 t)
     (write-decimal-returns-2 t)

@@ -9,7 +9,9 @@ use Rattle.listing.proofs.place_of.Statement.{statement}
 use Rattle.listing.proofs.place_of.Tie as tie
 
 returns : tie.Need-returns
-returns c = let a = c .before .before .before .args in c .place .ensures ∙ ap (λ (row : List ℕ). placeOf row (a .site)) (row-part (a .m) (a .rows .now) (a .s))
+returns c =
+    let a = c .before .before .before .args in
+    c .place .ensures ∙ ap (λ (row : List ℕ). placeOf row (a .site)) (row-part (a .m) (a .rows .now) (a .s))
 
 pub place-of-spec : {M : Type 1} → statement M
 place-of-spec =

@@ -5,9 +5,8 @@ use mathlib.Core.Path.{_≡_, refl}
 use Prim.Native.Nat.{_≤_, _-_}
 use lib.ListN.{length}
 use Rattle.counting.specs.Lists.{at}
-use Rattle.counting.specs.Buffers.{joined}
-use Rattle.file_writer.specs.Written.{Written}
-use Rattle.file_writer.proofs.Laying.{written-size, turns-none, turns-room, turns-more, turns-all}
+use Rattle.counting.specs.Buffers.{joined, Written}
+use Rattle.counting.proofs.Laying.{written-size, turns-none, turns-room, turns-more, turns-all}
 use Rattle.listing.specs.Listing.{spaced}
 use Rattle.listing.proofs.write_sites.Statement.{statement}
 use Rattle.listing.proofs.write_sites.Tie as tie
@@ -19,18 +18,23 @@ abbrev μ-loop : tie.MeasureT-loop
 μ-loop sites out₀ i next₀ j₀ j-end out next j = j-end - j
 
 loop-holds : tie.Need-loop-holds Inv-loop μ-loop
-loop-holds c = let a = c .before .before .args in (search needs, refl, turns-none (a .out .now) (a .i) _ (omega (arith, c .before .before .pre)))
+loop-holds c =
+    let i = c .before .before in
+    (search needs, refl, turns-none (i .args .out .now) (i .args .i) _ (omega (arith, i .pre)))
 
 cast-write-spaced : tie.Need-cast-write-spaced Inv-loop μ-loop
 cast-write-spaced c = omega (arith, c .shared-slice-known2 .given (c .before .before .loop .j))
 
 write-spaced-requires : tie.Need-write-spaced-requires Inv-loop μ-loop
 write-spaced-requires c κs =
-    let a = c .before .before .before .before .before .before .args in
-    turns-room (λ k. spaced (at (a .sites .now) k)) (c .before .before .before .loop .inv .2) (length (a .sites .now)) (omega arith) (c .before .before .before .before .before .before .pre)
+    let l = c .before .before .before .loop in
+    let sites = c .before .before .before .before .before .before .args .sites .now in
+    turns-room (λ k. spaced (at sites k)) (l .inv .2) (length sites) (omega arith) (c .before .before .before .before .before .before .pre)
 
 loop-again : tie.Need-loop-again Inv-loop μ-loop
-loop-again c = (omega arith, refl, turns-more _ (c .before .before .before .before .before .before .loop .inv .2) (c .before .before .write-spaced .ensures))
+loop-again c =
+    let l = c .before .before .before .before .before .before .loop in
+    (omega arith, refl, turns-more _ (l .inv .2) (c .before .before .write-spaced .ensures))
 
 same-length : tie.Need-same-length Inv-loop μ-loop
 same-length c = written-size (c .before .loop .inv .2)

@@ -4,10 +4,9 @@ use native.Mathlib.Omega.{arith}
 use mathlib.Core.Path.{_≡_, refl}
 use Prim.Native.Nat.{_≤_, _-_}
 use lib.ListN.{length}
-use Rattle.counting.specs.Buffers.{joined}
+use Rattle.counting.specs.Buffers.{joined, Written}
 use Rattle.counting.proofs.Tables.{row-within}
-use Rattle.file_writer.specs.Written.{Written}
-use Rattle.file_writer.proofs.Laying.{written-size, turns-none, turns-room, turns-more, turns-all}
+use Rattle.counting.proofs.Laying.{written-size, turns-none, turns-room, turns-more, turns-all}
 use Rattle.listing.specs.Listing.{streetLine}
 use Rattle.listing.proofs.write_streets.Statement.{statement}
 use Rattle.listing.proofs.write_streets.Tie as tie
@@ -20,17 +19,24 @@ abbrev μ-loop : tie.MeasureT-loop
 μ-loop m rows division out₀ i next₀ s₀ s-end out next s = s-end - s
 
 loop-holds : tie.Need-loop-holds Inv-loop μ-loop
-loop-holds c = let a = c .before .before .before .args in (search needs, refl, turns-none (a .out .now) (a .i) _ (omega (arith, c .before .before .before .pre .1)))
+loop-holds c =
+    let i = c .before .before .before in
+    (search needs, refl, turns-none (i .args .out .now) (i .args .i) _ (omega (arith, i .pre .1)))
 
 write-street-requires : tie.Need-write-street-requires Inv-loop μ-loop
 write-street-requires c κs =
-    let a = c .before .before .before .before .before .before .args in
     let l = c .before .before .loop in
-    let n = length (a .division .now) in
-    ((omega arith, omega (arith, row-within n (a .m) (l .s) (omega arith), c .before .before .before .before .before .before .pre .0)), turns-room (streetLine (a .m) (a .rows .now) (a .division .now)) (l .inv .2) n (omega arith) (c .before .before .before .before .before .before .pre .1))
+    let a = c .before .before .before .before .before .before .args in
+    let p = c .before .before .before .before .before .before .pre in
+    let n = length (a .division .now) in (
+      (omega arith, omega (arith, row-within n (a .m) (l .s) (omega arith), p .0)),
+      turns-room (streetLine (a .m) (a .rows .now) (a .division .now)) (l .inv .2) n (omega arith) (p .1),
+    )
 
 loop-again : tie.Need-loop-again Inv-loop μ-loop
-loop-again c = (omega arith, refl, turns-more _ (c .before .before .before .before .before .loop .inv .2) (c .before .before .write-street .ensures))
+loop-again c =
+    let l = c .before .before .before .before .before .loop in
+    (omega arith, refl, turns-more _ (l .inv .2) (c .before .before .write-street .ensures))
 
 same-length : tie.Need-same-length Inv-loop μ-loop
 same-length c = written-size (c .before .loop .inv .2)

@@ -34,7 +34,8 @@ returns : tie.Need-returns Inv-loop μ-loop
 returns c =
     let l = c .before .before .before .before .loop in
     let s = c .before .site-refusal in
-    let small : at (c .before .before .before .before .before .before .args .list .now) (l .j) < 256 = omega (arith, c .before .before .shared-slice-known2 .given (l .j)) in
+    let list = c .before .before .before .before .before .before .args .list .now in
+    let small : at list (l .j) < 256 = omega (arith, c .before .before .shared-slice-known2 .given (l .j)) in
     first-found (l .j) _ _ _ (omega arith) (l .inv .2) (byte-read _ _ (l .seen) (l .j) _ (l .inv .3) small (s .ensures)) (c .if1 .taken)
 
 array-write-seen : tie.Need-array-write-seen Inv-loop μ-loop

@@ -20,7 +20,8 @@ use contract.Monad.{Fun, fact}
 use contract.Running.{givenOf, tables, tablesOf}
 use types.Kit.{Given, ‵, _⊛_, ⋆, mean, later, _$_, _∵_, !, qed, by, move, drop, use1, split, fsplit, fjoin, suffices, frame, done}
 use types.Part.{whole, sub, look-in}
-use types.Run.{look, init, forget, stop, fld, from, load, of-opd, and-then, no-more, assigns, land, returns, enter, alloc1, alloc0, params1, pass1, pass0, free1, free0}
+use types.Run.{look, init, forget, stop, fld, from, load, of-opd, and-then, no-more, assigns, land, returns, enter, alloc1, alloc0, params1, pass1}
+use types.Run.{pass0, free1, free0}
 use sound.WpLaws.{FmC, fmOf, WpFn-mono}
 use denote.RattleType.{owns}
 use denote.Laws.{Is}
@@ -58,12 +59,15 @@ module _ {M : Type 1} (𝓤 : URA M) (H : Heap 𝓤) (A : Atoms 𝓤) (mem : Mem
   abbrev Refusal : Contract 𝓤
   Refusal = tripleOf 𝓤 H A refusal-of.signature (refusal-of.spec 𝓤 H A mem run)
 
-module _ {M : Type 1} (𝓤 : URA M) (H : Heap 𝓤) (A : Atoms 𝓤) (W : Given 𝓤 H A) (mem : Memory → SProp 𝓤) (run : Routine → Fun 𝓤) (κ : Lft) (q : Share) (d : Reader) (n m : ℕ) (n-fits : n < 2 ^ 64) (m-fits : m < 2 ^ 8) (fits : d .count < 2 ^ 64) (within : d .count ≤ length (now (d .file))) where
+module _ {M : Type 1} (𝓤 : URA M) (H : Heap 𝓤) (A : Atoms 𝓤) (W : Given 𝓤 H A) (mem : Memory → SProp 𝓤)
+    (run : Routine → Fun 𝓤) (κ : Lft) (q : Share) (d : Reader) (n m : ℕ) (n-fits : n < 2 ^ 64) (m-fits : m < 2 ^ 8) (fits : d .count < 2 ^ 64)
+    (within : d .count ≤ length (now (d .file))) where
   abbrev mach : Val
   mach = T′.lowered d
 
   abbrev Post : Val → SProp 𝓤
-  Post = walkOf 𝓤 H A streets.ended stayed (streets.clauses 𝓤 H A mem run) .post (((κ, tt), (q, tt), tt, (d, (n, (m, tt))), (mach ∷ [], (vint w64 n ∷ [], (vint w8 m ∷ [], tt)))), tt)
+  Post = walkOf 𝓤 H A streets.ended stayed (streets.clauses 𝓤 H A mem run) .post
+      (((κ, tt), (q, tt), tt, (d, (n, (m, tt))), (mach ∷ [], (vint w64 n ∷ [], (vint w8 m ∷ [], tt)))), tt)
 
   abbrev Own : Fml
   Own = ReaderOwns κ d mach
@@ -78,40 +82,56 @@ module _ {M : Type 1} (𝓤 : URA M) (H : Heap 𝓤) (A : Atoms 𝓤) (W : Given
   asks : ent 𝓤 (⋆ 𝓤 H A (‵ (FileOwns κ (d .file)) ∷ Token κ q ∷ [])) (Refusal 𝓤 H A mem run .pre to)
   asks =
       qed W (‵ (FileOwns κ (d .file)) ∷ Token κ q ∷ []) ∵ says ! within $ nothing ! $ owned ! u8 (Is u8) (uint-makes 𝓤 H A W w8) m _ (refl, m-fits) $ fjoin ! $
-      owned ! usize (Is usize) (uint-makes 𝓤 H A W w64) n _ (refl, n-fits) $ fjoin ! $ owned ! usize (Is usize) (uint-makes 𝓤 H A W w64) (d .count) _ (refl, fits) $ fjoin ! $
+      owned ! usize (Is usize) (uint-makes 𝓤 H A W w64) n _ (refl, n-fits) $ fjoin ! $
+      owned ! usize (Is usize) (uint-makes 𝓤 H A W w64) (d .count) _ (refl, fits) $ fjoin ! $
       move ! (1 ∷ 0 ∷ []) $ fjoin ! $ move ! (1 ∷ 0 ∷ []) $ frame ! $ done !
 
   answers : (u : Val) → ent 𝓤 (Refusal 𝓤 H A mem run .post to u) (mean 𝓤 H A (later (‵ (u8 .own (refusal d n m) (u ∷ [])) ⊛ Token κ q)))
-  answers u = gives W κ q u8 (refusal d n m) u (ensured 𝓤 H A refusal-of.ended (refusal-of.clauses 𝓤 H A mem run) (κ, tt) (d .file, (d .count, (n, (m, tt)))) tt) (λ x. x ≡ refusal d n m)
+  answers u = gives W κ q u8 (refusal d n m) u (ensured 𝓤 H A refusal-of.ended (refusal-of.clauses 𝓤 H A mem run) (κ, tt)
+      (d .file, (d .count, (n, (m, tt)))) tt) (λ x. x ≡ refusal d n m)
       (λ x. exE 𝓤 _ (λ ws. snd∗ 𝓤 (sem 𝓤 H A (lasts refusal-of.ended (κ, tt) (d .file, (d .count, (n, (m, tt)))) ws)) (fact 𝓤 (x ≡ refusal d n m)))) (λ x e. e)
 
   exits : (u : Val) → ent 𝓤 (⋆ 𝓤 H A (‵ (u8 .own (refusal d n m) (u ∷ [])) ∷ Token κ q ∷ ‵ Own ∷ [])) (Post u)
   exits u =
       qed W (‵ (u8 .own (refusal d n m) (u ∷ [])) ∷ Token κ q ∷ ‵ Own ∷ []) ∵
-      suffices ! _ (ends-at 𝓤 H A streets.ended stayed (streets.clauses 𝓤 H A mem run) W (((κ, tt), (q, tt), tt, (d, (n, (m, tt))), (mach ∷ [], (vint w64 n ∷ [], (vint w8 m ∷ [], tt)))), tt) u (refusal d n m) (tt, (tt, (tt, tt))) (tt, (tt, (tt, tt)))) $ says ! refl $
-      move ! (1 ∷ []) $ frame ! $ nothing ! $ owned ! u8 (Is u8) (uint-makes 𝓤 H A W w8) m _ (refl, m-fits) $ fjoin ! $ owned ! usize (Is usize) (uint-makes 𝓤 H A W w64) n _ (refl, n-fits) $ fjoin ! $ move ! (2 ∷ 0 ∷ []) $ fjoin ! $ frame ! $ done !
+      suffices ! _ (ends-at 𝓤 H A streets.ended stayed (streets.clauses 𝓤 H A mem run) W
+      (((κ, tt), (q, tt), tt, (d, (n, (m, tt))), (mach ∷ [], (vint w64 n ∷ [], (vint w8 m ∷ [], tt)))), tt) u (refusal d n m) (tt, (tt, (tt, tt)))
+      (tt, (tt, (tt, tt)))) $ says ! refl $
+      move ! (1 ∷ []) $ frame ! $ nothing ! $ owned ! u8 (Is u8) (uint-makes 𝓤 H A W w8) m _ (refl, m-fits) $ fjoin ! $
+      owned ! usize (Is usize) (uint-makes 𝓤 H A W w64) n _ (refl, n-fits) $ fjoin ! $ move ! (2 ∷ 0 ∷ []) $ fjoin ! $ frame ! $ done !
 
   module _ (C : Calls 𝓤 H) (Λ : Loops 𝓤 H) (fm : FmC 𝓤 H (W .laws) C) (known : Triple 𝓤 (C #file-reader·reader·streets-refusal) (Refusal 𝓤 H A mem run)) where
-    walk : Holds (hasTy (T′.mir (named 0)) mach) × WT mach → ent 𝓤 (onEntry 𝓤 H A streets.signature (κ, tt) (q, tt) (d, (n, (m, tt))) (mach ∷ [], (vint w64 n ∷ [], (vint w8 m ∷ [], tt)))) (WpFn 𝓤 H C Λ code.function (mach ∷ vint w64 n ∷ vint w8 m ∷ []) Post)
+    walk : Holds (hasTy (T′.mir (named 0)) mach) × WT mach
+        → ent 𝓤 (onEntry 𝓤 H A streets.signature (κ, tt) (q, tt) (d, (n, (m, tt))) (mach ∷ [], (vint w64 n ∷ [], (vint w8 m ∷ [], tt))))
+        (WpFn 𝓤 H C Λ code.function (mach ∷ vint w64 n ∷ vint w8 m ∷ []) Post)
     walk wt =
-        qed W (Token κ q ∷ ‵ (owns (B (κ, tt) ∷ usize ∷ u8 ∷ []) (d, (n, (m, tt))) (mach ∷ [], (vint w64 n ∷ [], (vint w8 m ∷ [], tt)))) ∷ []) ∵ enter ! C Λ code.function (mach ∷ vint w64 n ∷ vint w8 m ∷ []) _ $
+        qed W (Token κ q ∷ ‵ (owns (B (κ, tt) ∷ usize ∷ u8 ∷ []) (d, (n, (m, tt))) (mach ∷ [], (vint w64 n ∷ [], (vint w8 m ∷ [], tt)))) ∷ []) ∵ enter
+        ! C Λ code.function (mach ∷ vint w64 n ∷ vint w8 m ∷ []) _ $
         alloc1 ! (λ l₀. alloc1 ! (λ l₁. alloc1 ! (λ l₂. alloc1 ! (λ l₃. alloc1 ! (λ l₄. alloc1 ! (λ l₅. alloc0 ! $ params1 ! $
         pass1 ! (init ! 8 refl wt) $ pass1 ! (init ! 6 refl (tt, record { fits = n-fits })) $ pass1 ! (init ! 4 refl (tt, record { fits = m-fits })) $ pass0 ! $
         assigns ! (of-opd ! (load ! (from ! (fld ! refl (stop !))) (look-in ! 8 (sub ! 0 refl (whole !))))) (from ! (stop !)) (init ! 2 refl (tt, wt .1 .0)) $
-        assigns ! (of-opd ! (load ! (from ! (fld ! refl (stop !))) (look-in ! 8 (sub ! 1 refl (whole !))))) (from ! (stop !)) (init ! 0 refl (tt, wt .1 .1 .0)) $
+        assigns ! (of-opd ! (load ! (from ! (fld ! refl (stop !))) (look-in ! 8 (sub ! 1 refl (whole !))))) (from ! (stop !))
+        (init ! 0 refl (tt, wt .1 .1 .0)) $
         -- [_5; …; _4; …; _3; …; _2; …; _1; …; room for _0; …; the token; what r, n and m own]
-        move ! (13 ∷ []) $ fsplit ! $ move ! (1 ∷ []) $ drop ! $ use1 W (‵ (FileOwns κ (d .file)) ⊛ ‵ Own) (file-of 𝓤 H A W κ d) $ split ! $ move ! (0 ∷ 14 ∷ []) $
+        move ! (13 ∷ []) $ fsplit ! $ move ! (1 ∷ []) $ drop ! $ use1 W (‵ (FileOwns κ (d .file)) ⊛ ‵ Own) (file-of 𝓤 H A W κ d) $ split ! $
+        move ! (0 ∷ 14 ∷ []) $
         -- [what file owns; the token; what the reader owns; _5; …]
-        calls κ q ! fm (Refusal 𝓤 H A mem run) known to (FileOwns κ (d .file)) u8 (refusal d n m) asks answers (and-then ! (load ! (from ! (stop !)) (look ! 4 refl)) (and-then ! (load ! (from ! (stop !)) (look ! 2 refl)) (and-then ! (load ! (from ! (stop !)) (look ! 8 refl)) (and-then ! (load ! (from ! (stop !)) (look ! 6 refl)) (no-more !))))) (λ u is.
+        calls κ q ! fm (Refusal 𝓤 H A mem run) known to (FileOwns κ (d .file)) u8 (refusal d n m) asks answers
+        (and-then ! (load ! (from ! (stop !)) (look ! 4 refl))
+        (and-then ! (load ! (from ! (stop !)) (look ! 2 refl))
+        (and-then ! (load ! (from ! (stop !)) (look ! 8 refl)) (and-then ! (load ! (from ! (stop !)) (look ! 6 refl)) (no-more !))))) (λ u is.
         land ! (from ! (stop !)) (init ! 13 refl (uint-lawful 𝓤 H A W w8 .typed (refusal d n m) _ is .0)) $
         -- [the result; the token; what the reader owns; _5; …; _4; …; _3; …; _2; …; _1; …; _0; …]
         returns ! (look ! 13 refl) $ forget ! 3 refl $ forget ! 5 refl $ forget ! 7 refl $ forget ! 9 refl $ forget ! 11 refl $ forget ! 13 refl $
-        move ! (13 ∷ 14 ∷ []) $ free1 ! $ move ! (11 ∷ 12 ∷ []) $ free1 ! $ move ! (9 ∷ 10 ∷ []) $ free1 ! $ move ! (7 ∷ 8 ∷ []) $ free1 ! $ move ! (5 ∷ 6 ∷ []) $ free1 ! $ move ! (3 ∷ 4 ∷ []) $ free1 ! $ free0 ! $ by ! (exits u))))))))
+        move ! (13 ∷ 14 ∷ []) $ free1 ! $ move ! (11 ∷ 12 ∷ []) $ free1 ! $ move ! (9 ∷ 10 ∷ []) $ free1 ! $ move ! (7 ∷ 8 ∷ []) $ free1 ! $
+        move ! (5 ∷ 6 ∷ []) $ free1 ! $ move ! (3 ∷ 4 ∷ []) $ free1 ! $ free0 ! $ by ! (exits u))))))))
 
 module _ {M : Type 1} (𝓤 : URA M) (H : Heap 𝓤) (A : Atoms 𝓤) (W : Given 𝓤 H A) (mem : Memory → SProp 𝓤) (run : Routine → Fun 𝓤) where
   streets-walks : (C : Calls 𝓤 H) (Λ : Loops 𝓤 H) → FmC 𝓤 H (W .laws) C → Triple 𝓤 (C #file-reader·reader·streets-refusal) (Refusal 𝓤 H A mem run)
       → Walks 𝓤 H A streets.ended stayed (WpFn 𝓤 H C Λ code.function) (streets.clauses 𝓤 H A mem run)
-  streets-walks C Λ fm known = walked 𝓤 H A streets.ended stayed (streets.clauses 𝓤 H A mem run) (WpFn 𝓤 H C Λ code.function) (λ κs. (LL.vals (T.the-type (namedLft 1 0 tt κs)) (T′.the-laws (namedLft 1 0 tt κs)), (uint-vals w64, (uint-vals w8, tt)))) (λ κs. (LL.tells (T.the-type (namedLft 1 0 tt κs)) (T′.the-laws (namedLft 1 0 tt κs)), (uint-tells w64, (uint-tells w8, tt))))
+  streets-walks C Λ fm known = walked 𝓤 H A streets.ended stayed (streets.clauses 𝓤 H A mem run) (WpFn 𝓤 H C Λ code.function)
+      (λ κs. (LL.vals (T.the-type (namedLft 1 0 tt κs)) (T′.the-laws (namedLft 1 0 tt κs)), (uint-vals w64, (uint-vals w8, tt))))
+      (λ κs. (LL.tells (T.the-type (namedLft 1 0 tt κs)) (T′.the-laws (namedLft 1 0 tt κs)), (uint-tells w64, (uint-tells w8, tt))))
       (λ κs qs bounds a g are. needs 𝓤 _ _ (λ within.
       let wt = LL.lawful (T.the-type (namedLft 1 0 tt κs)) (T′.the-laws (namedLft 1 0 tt κs)) 𝓤 H A W .typed (a .0) _ (are .0) .0 in
       walk 𝓤 H A W mem run (κs .0) (qs .0) (a .0) (a .1 .0) (a .1 .1 .0) (are .1 .0 .1) (are .1 .1 .0 .1) (wt .1 .1 .0 .fits) within C Λ fm known wt))
@@ -119,7 +139,11 @@ module _ {M : Type 1} (𝓤 : URA M) (H : Heap 𝓤) (A : Atoms 𝓤) (W : Given
 streets-meets : {M : Type 1} (𝓤 : URA M) (H : Heap 𝓤) (A : Atoms 𝓤) (W : Given 𝓤 H A) (mem : Memory → SProp 𝓤) (run : Routine → Fun 𝓤) (𝓣 : Tables 𝓤 H)
     → Triple 𝓤 (𝓣 .C #file-reader·reader·streets-refusal) (Refusal 𝓤 H A mem run)
     → Meets 𝓤 H A streets.signature (WpFn 𝓤 H (𝓣 .C) (𝓣 .Λ) code.function) (streets.spec 𝓤 H A mem run)
-streets-meets 𝓤 H A W mem run 𝓣 known = walk-meets 𝓤 H A streets.ended stayed W (goes-none 𝓤 H A W 1 B yes (λ κs x f. refl), (goes-none 𝓤 H A W 1 (λ _. usize) yes (λ κs x f. refl), (goes-none 𝓤 H A W 1 (λ _. u8) yes (λ κs x f. refl), tt))) (streets.clauses 𝓤 H A mem run) (WpFn 𝓤 H (𝓣 .C) (𝓣 .Λ) code.function) (WpFn-mono 𝓤 H (W .laws) 𝓣 code.function)
+streets-meets 𝓤 H A W mem run 𝓣 known = walk-meets 𝓤 H A streets.ended stayed W (
+  goes-none 𝓤 H A W 1 B yes (λ κs x f. refl),
+  (goes-none 𝓤 H A W 1 (λ _. usize) yes (λ κs x f. refl), (goes-none 𝓤 H A W 1 (λ _. u8) yes (λ κs x f. refl), tt)),
+) (streets.clauses 𝓤 H A mem run)
+    (WpFn 𝓤 H (𝓣 .C) (𝓣 .Λ) code.function) (WpFn-mono 𝓤 H (W .laws) 𝓣 code.function)
     (streets-walks 𝓤 H A W mem run (𝓣 .C) (𝓣 .Λ) (fmOf 𝓤 H (W .laws) 𝓣) known)
 
 pub streets-spec : {M : Type 1} → stated.statement M
@@ -128,4 +152,5 @@ streets-spec 𝓤 H 𝓜 𝓖 𝓡 =
     entered 𝓤 H (tripleOf 𝓤 H (𝓖 .A) streets.signature (streets.spec 𝓤 H (𝓖 .A) (𝓜 .mem) (𝓡 .run)))
     (tables 𝓤 H 𝓜 𝓡 code.env .C) (tables 𝓤 H 𝓜 𝓡 code.env .Λ) #file-reader·reader·streets code.function (code.unfolded 𝓤 H 𝓜 𝓡)
     (streets-meets 𝓤 H (𝓖 .A) (givenOf 𝓤 H 𝓜 𝓖) (𝓜 .mem) (𝓡 .run) (tablesOf 𝓤 H 𝓜 (tables 𝓤 H 𝓜 𝓡 code.env))
-    (cited 𝓤 H (Refusal 𝓤 H (𝓖 .A) (𝓜 .mem) (𝓡 .run)) 𝓜 𝓡 code.env #file-reader·reader·streets-refusal refusal-of-def.routine code.calls-file-reader·reader·streets-refusal (refusal-of-thm.met 𝓤 H 𝓜 𝓖 𝓡)))
+    (cited 𝓤 H (Refusal 𝓤 H (𝓖 .A) (𝓜 .mem) (𝓡 .run)) 𝓜 𝓡 code.env #file-reader·reader·streets-refusal refusal-of-def.routine
+    code.calls-file-reader·reader·streets-refusal (refusal-of-thm.met 𝓤 H 𝓜 𝓖 𝓡)))

@@ -1,85 +1,88 @@
 -- `file_reader::records::record_in` meets its contract. Assumes nothing.
 use borrow.Author.Needs.{needs}
-use mathlib.Core.List.{[], _∷_}
+use mathlib.Core.Path.{_≡_}
+use mathlib.Core.List.{List, [], _∷_}
+use Prim.Native.Nat.{ℕ}
 use Rattle.survey_file.specs.Encode.{townMark, scoresMark, streetMark, endMark}
 use Rattle.file_reader.proofs.Reading.{no-mark, other-mark, due-mark, other-due, unknown-mark}
+use Rattle.file_reader.specs.declared.records.Due.{Due}
 use Rattle.file_reader.specs.declared.records.Due.the-variants as due
-use Rattle.file_reader.specs.Answers.{markOf}
+use Rattle.file_reader.specs.declared.records.Record.{Record}
+use Rattle.file_reader.specs.declared.records.Record.the-variants as got
+use Rattle.file_reader.specs.Answers.{markOf, fieldsRefusal, fieldsOf, recordUnless, recordOf}
 use Rattle.file_reader.proofs.records.record_in.Statement.{statement}
 use Rattle.file_reader.proofs.records.record_in.Tie as tie
 
 returns : tie.Need-returns
 returns c = no-mark (c .before .before .args .due) (c .before .before .args .rest .now) (c .if1 .taken)
 
+-- ---- the mark is there, as a number
+abbrev due-at : tie.After-word-at → Due
+due-at i = i .before .before .before .args .due
+
+abbrev rest : tie.After-word-at → List ℕ
+rest i = i .before .before .before .args .rest .now
+
+-- it is not the mark of the record that is due
+other : (i : tie.After-word-at) → (i .word-at .result ≡ markOf (due-at i) → ⊥) → got.Refused 13 ≡ recordOf (due-at i) (rest i)
+other i = other-mark (due-at i) (rest i) (i .word-at .result) (i .before .if1 .left) (i .word-at .ensures .0)
+
+-- it is, and the fields decide
+due-read : (i : tie.After-word-at) (k : Due) (answer : Record) → due-at i ≡ k → i .word-at .result ≡ markOf k
+    → answer ≡ recordUnless (fieldsRefusal k (rest i)) (fieldsOf k (rest i)) → answer ≡ recordOf (due-at i) (rest i)
+due-read i = due-mark (due-at i) (rest i) (i .word-at .result) (i .before .if1 .left) (i .word-at .ensures .0)
+
 returns-2 : tie.Need-returns-2
 returns-2 c =
-    let a = c .before .before .before .before .before .args in
-    let w = c .before .before .word-at in
-    other-mark (a .due) (a .rest .now) (w .result) (c .before .before .before .if1 .left) (w .ensures .0)
-    (other-due (a .due) (1 ∷ 2 ∷ 3 ∷ []) (w .result) townMark (c .match2 .keys2) (c .before .match .keys1) tt)
+    let i = c .before .before in
+    other i (other-due (due-at i) (1 ∷ 2 ∷ 3 ∷ []) (i .word-at .result) townMark (c .match2 .keys2) (c .before .match .keys1) tt)
 
 returns-3 : tie.Need-returns-3
 returns-3 c =
-    let a = c .before .before .before .before .before .args in
-    let w = c .before .before .word-at in
-    other-mark (a .due) (a .rest .now) (w .result) (c .before .before .before .if1 .left) (w .ensures .0)
-    (other-due (a .due) (0 ∷ 2 ∷ 3 ∷ []) (w .result) scoresMark (c .match3 .keys2) (c .before .match .keys2) tt)
+    let i = c .before .before in
+    other i (other-due (due-at i) (0 ∷ 2 ∷ 3 ∷ []) (i .word-at .result) scoresMark (c .match3 .keys2) (c .before .match .keys2) tt)
 
 returns-4 : tie.Need-returns-4
 returns-4 c =
-    let a = c .before .before .before .before .before .args in
-    let w = c .before .before .word-at in
-    other-mark (a .due) (a .rest .now) (w .result) (c .before .before .before .if1 .left) (w .ensures .0)
-    (other-due (a .due) (0 ∷ 1 ∷ 3 ∷ []) (w .result) streetMark (c .match4 .keys2) (c .before .match .keys3) tt)
+    let i = c .before .before in
+    other i (other-due (due-at i) (0 ∷ 1 ∷ 3 ∷ []) (i .word-at .result) streetMark (c .match4 .keys2) (c .before .match .keys3) tt)
 
 returns-5 : tie.Need-returns-5
 returns-5 c =
-    let a = c .before .before .before .before .before .args in
-    let w = c .before .before .word-at in
-    other-mark (a .due) (a .rest .now) (w .result) (c .before .before .before .if1 .left) (w .ensures .0)
-    (other-due (a .due) (0 ∷ 1 ∷ 2 ∷ []) (w .result) endMark (c .match5 .keys2) (c .before .match .keys4) tt)
+    let i = c .before .before in
+    other i (other-due (due-at i) (0 ∷ 1 ∷ 2 ∷ []) (i .word-at .result) endMark (c .match5 .keys2) (c .before .match .keys4) tt)
 
 returns-6 : tie.Need-returns-6
 unfolding markOf
 returns-6 c =
-    let a = c .before .before .before .before .before .before .before .args in
-    let w = c .before .before .before .before .word-at in
-    let there = c .before .before .before .before .before .if1 .left in
-    due-mark (a .due) (a .rest .now) (w .result) there (w .ensures .0) due.Town _ (c .before .enum-told .given .1) (c .before .before .before .match .keys1) (c .town-in .ensures)
+    let m = c .before .before .before in
+    due-read (m .before) due.Town _ (c .before .enum-told .given .1) (m .match .keys1) (c .town-in .ensures)
 
 returns-7 : tie.Need-returns-7
 unfolding markOf
 returns-7 c =
-    let a = c .before .before .before .before .before .before .before .before .args in
-    let w = c .before .before .before .before .before .word-at in
-    let there = c .before .before .before .before .before .before .if1 .left in
+    let m = c .before .before .before .before in
     let f = c .before .before .due .given in
-    due-mark (a .due) (a .rest .now) (w .result) there (w .ensures .0) (due.Scores (f .0 .0)) _ (f .1) (c .before .before .before .before .match .keys2) (c .scores-in .ensures)
+    due-read (m .before) (due.Scores (f .0 .0)) _ (f .1) (m .match .keys2) (c .scores-in .ensures)
 
 returns-8 : tie.Need-returns-8
 unfolding markOf
 returns-8 c =
-    let a = c .before .before .before .before .before .before .before .before .args in
-    let w = c .before .before .before .before .before .word-at in
-    let there = c .before .before .before .before .before .before .if1 .left in
+    let m = c .before .before .before .before in
     let f = c .before .before .due2 .given in
-    due-mark (a .due) (a .rest .now) (w .result) there (w .ensures .0) (due.Street (f .0 .0) (f .0 .1 .0)) _ (f .1) (c .before .before .before .before .match .keys3) (c .street-in .ensures)
+    due-read (m .before) (due.Street (f .0 .0) (f .0 .1 .0)) _ (f .1) (m .match .keys3) (c .street-in .ensures)
 
 returns-9 : tie.Need-returns-9
 unfolding markOf
 returns-9 c =
-    let a = c .before .before .before .before .before .before .before .args in
-    let w = c .before .before .before .before .word-at in
-    let there = c .before .before .before .before .before .if1 .left in
-    due-mark (a .due) (a .rest .now) (w .result) there (w .ensures .0) due.End _ (c .before .enum-told2 .given .1) (c .before .before .before .match .keys4) (c .end-in .ensures)
+    let m = c .before .before .before in
+    due-read (m .before) due.End _ (c .before .enum-told2 .given .1) (m .match .keys4) (c .end-in .ensures)
 
 returns-10 : tie.Need-returns-10
 returns-10 c =
-    let a = c .before .before .before .before .args in
-    let w = c .before .word-at in
+    let i = c .before in
     let not-one = c .match .rest in
-    other-mark (a .due) (a .rest .now) (w .result) (c .before .before .if1 .left) (w .ensures .0)
-    (unknown-mark (a .due) (w .result) (not-one .0 .0 .0 .1) (not-one .0 .0 .1) (not-one .0 .1) (not-one .1))
+    other i (unknown-mark (due-at i) (i .word-at .result) (not-one .0 .0 .0 .1) (not-one .0 .0 .1) (not-one .0 .1) (not-one .1))
 
 pub record-in-spec : {M : Type 1} → statement M
 record-in-spec =

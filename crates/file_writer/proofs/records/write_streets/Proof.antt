@@ -2,11 +2,10 @@
 use borrow.Author.Needs.{needs}
 use native.Mathlib.Omega.{arith}
 use Prim.Native.Nat.{_≤_, _-_}
-use Rattle.counting.specs.Buffers.{joined}
+use Rattle.counting.specs.Buffers.{joined, Written}
 use Rattle.counting.proofs.Tables.{row-within}
 use Rattle.survey_file.specs.Encode.{streetBytes}
-use Rattle.file_writer.specs.Written.{Written}
-use Rattle.file_writer.proofs.Laying.{written-size, turns-none, turns-room, turns-more, turns-all}
+use Rattle.counting.proofs.Laying.{written-size, turns-none, turns-room, turns-more, turns-all}
 use Rattle.file_writer.proofs.Encoded.{street-fits, street-written}
 use Rattle.file_writer.proofs.records.write_streets.Statement.{statement}
 use Rattle.file_writer.proofs.records.write_streets.Tie as tie
@@ -17,31 +16,39 @@ Inv-loop n m rows file₀ i next₀ s₀ file next s = (s ≤ n) × Written file
 abbrev μ-loop : tie.MeasureT-loop
 μ-loop n m rows file₀ i next₀ s₀ file next s = n - s
 
+-- ---- a turn, and the call's start
+abbrev Turn : Type 0
+Turn = tie.In-loop Inv-loop μ-loop
+
+abbrev entry : Turn → tie.Start Inv-loop μ-loop
+entry i = i .before .before .before .before
+
 loop-holds : tie.Need-loop-holds Inv-loop μ-loop
-loop-holds c = let a = c .before .before .args in (search needs, turns-none (a .file .now) (a .i) _ (omega (arith, c .before .before .pre .3)))
+loop-holds c =
+    let i = c .before .before in
+    (search needs, turns-none (i .args .file .now) (i .args .i) _ (omega (arith, i .pre .3)))
 
 cast-write-street : tie.Need-cast-write-street Inv-loop μ-loop
-cast-write-street c = omega (arith, c .before .before .before .before .pre .0)
+cast-write-street c = omega (arith, entry c .pre .0)
 
 list-of-requires : tie.Need-list-of-requires Inv-loop μ-loop
-list-of-requires c κs =
-    let a = c .before .before .before .before .args in
-    omega (arith, row-within (a .n) (a .m) (c .before .loop .s) (omega arith), c .before .before .before .before .pre .2)
+list-of-requires c κs = omega (arith, row-within (entry c .args .n) (entry c .args .m) (c .before .loop .s) (omega arith), entry c .pre .2)
 
 write-street-requires : tie.Need-write-street-requires Inv-loop μ-loop
 write-street-requires c κs =
-    let a = c .before .before .before .before .before .before .args in
-    let p = c .before .before .before .before .before .before .pre in
+    let a = entry (c .before .before) .args in
+    let p = entry (c .before .before) .pre in
     let l = c .before .before .before .loop in
     let room = turns-room (streetBytes (a .m) (a .rows .now)) (l .inv .1) (a .n) (omega arith) (p .3) in
     street-fits (a .m) (a .rows .now) (l .s) _ (c .before .list-of .ensures) (l .next) (l .file) (p .1) room
 
 loop-again : tie.Need-loop-again Inv-loop μ-loop
 loop-again c =
-    let a = c .before .before .before .before .before .before .before .before .before .args in
-    let l = c .before .before .before .before .before .before .loop in
-    let list = c .before .before .before .before .list-of .ensures in
-    (omega arith, turns-more _ (l .inv .1) (street-written (a .m) (a .rows .now) (l .s) _ list (c .before .before .write-street .ensures)))
+    let found = c .before .before .before .before in
+    let a = entry (found .before) .args in
+    let l = found .before .before .loop in
+    let street = street-written (a .m) (a .rows .now) (l .s) _ (found .list-of .ensures) (c .before .before .write-street .ensures) in
+    (omega arith, turns-more _ (l .inv .1) street)
 
 same-length : tie.Need-same-length Inv-loop μ-loop
 same-length c = written-size (c .before .loop .inv .1)

@@ -2,7 +2,7 @@
 use borrow.Author.Needs.{needs}
 use native.Mathlib.Omega.{arith}
 use lib.Seq.{lt-length-set}
-use Rattle.file_writer.proofs.Laying.{written-two}
+use Rattle.counting.proofs.Laying.{written-two}
 use Rattle.file_writer.proofs.records.write_word.Statement.{statement}
 use Rattle.file_writer.proofs.records.write_word.Tie as tie
 
