@@ -1,10 +1,12 @@
 // What the calls on files turn down: the number that its definition gives, and 0 where the call is accepted.
+use survey::Survey;
 use survey::check;
 ghost use mathlib.Core.Path.{_≡_};
 ghost use lib.Dec.{ltb};
 ghost use Rattle.counting.specs.Words.{_when_};
 ghost use Rattle.survey.specs.Refusals.{kindRefusal};
-ghost use Rattle.refusals.specs.Refusals.{writeRefusal, readRefusal};
+ghost use Rattle.refusals.specs.Inputs.{writeLent, readLent};
+ghost use Rattle.refusals.specs.Refusals.{Tried, writeRefusal, readRefusal};
 
 // 4: a kind that is neither free nor balanced.
 fn kind_refusal(kind: usize) -> u8
@@ -36,7 +38,7 @@ pub fn write_refusal(
     rows: &[u8],
     file: &[u8],
 ) -> u8
-    ensures { λ r. ⌜ r ≡ writeRefusal n m k kind (now (scores .entry)) (now (rows .entry)) (now (file .entry)) ⌝ }
+    ensures { λ r. ⌜ Tried writeRefusal (writeLent n m k kind scores rows file) r ⌝ }
 {
     let r = check::survey_refusal(n, m, k, kind_refusal(kind), scores, rows);
     if r != 0 {
@@ -47,12 +49,12 @@ pub fn write_refusal(
 
 // Reading a file into its two buffers.
 pub fn read_refusal(file: &[u8], rows: &[u8], scores: &[u16]) -> u8
-    ensures { λ r. ⌜ r ≡ readRefusal (now (file .entry)) (now (rows .entry)) (now (scores .entry)) ⌝ }
+    ensures { λ r. ⌜ Tried readRefusal (readLent file rows scores) r ⌝ }
 {
-    if rows.len() != 25600 {
+    if rows.len() != Survey::ROWS {
         return 6;
     }
-    if scores.len() != 64 {
+    if scores.len() != Survey::SITES {
         return 6;
     }
     file_reader::number_of(file_reader::check(file))

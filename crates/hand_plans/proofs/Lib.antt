@@ -1,2 +1,2 @@
 pub mod Tallies
-pub mod Tried
+pub mod HandSizes

@@ -4,16 +4,19 @@ ghost use mathlib.Core.Path.{_≡_};
 ghost use Prim.Native.Nat.{_+_, _*_, _≤_, suc};
 ghost use lib.Dec.{ltb, eqb};
 ghost use lib.ListN.{length};
+ghost use Rattle.counting.specs.Bounds.{mostStreets, mostSites};
 ghost use Rattle.counting.specs.Words.{_when_, _unless_, one, countOf};
 ghost use Rattle.counting.specs.Lists.{at};
-ghost use Rattle.survey.specs.Rows.{value};
+ghost use Rattle.survey.specs.Town.{town, was};
+ghost use Rattle.survey.specs.Rows.{rowAt, scoreOf, value};
 ghost use Rattle.division.specs.Shares.{divisionTotal};
-ghost use Rattle.refusals.specs.Refusals.{sitesWith, claimRefusal, freeHandRefusal, balancedHandRefusal};
+ghost use Rattle.refusals.specs.Inputs.{handLent};
+ghost use Rattle.refusals.specs.Refusals.{Tried, sitesWith, claimRefusal, freeHandRefusal, balancedHandRefusal};
 ghost use Rattle.hand_plans.specs.Counts.{between, Counted};
 
 // How many streets each site has, and how many have none, in one pass over the division.
 fn count_streets(division: &[u8]) -> [usize; 256]
-    ensures { λ r. ⌜ Counted r (now (division .entry)) ⌝ }
+    ensures { λ r. ⌜ Counted r (was division) ⌝ }
 {
     let mut counts = [0usize; 256];
     for s in 0..division.len() {
@@ -38,7 +41,7 @@ fn one_within(streets: usize, least: usize, most: usize) -> usize
 
 // The sites of 1 to m whose numbers of streets are within the bounds.
 fn count_sites(counts: &[usize; 256], m: usize, least: usize, most: usize) -> usize
-    requires { ⌜ m ≤ 64 ⌝ }
+    requires { ⌜ m ≤ mostSites ⌝ }
     ensures { λ r. ⌜ r ≡ countOf m (λ a. between least most (at (now (counts .entry)) (suc a))) ⌝ }
 {
     let mut sites: usize = 0;
@@ -50,8 +53,8 @@ fn count_sites(counts: &[usize; 256], m: usize, least: usize, most: usize) -> us
 
 // The same of a division, whose streets are counted once.
 fn sites_within(division: &[u8], m: usize, least: usize, most: usize) -> usize
-    requires { ⌜ m ≤ 64 ⌝ }
-    ensures { λ r. ⌜ r ≡ sitesWith (between least most) m (now (division .entry)) ⌝ }
+    requires { ⌜ m ≤ mostSites ⌝ }
+    ensures { λ r. ⌜ r ≡ sitesWith (between least most) m (was division) ⌝ }
 {
     let counts = count_streets(division);
     count_sites(&counts, m, least, most)
@@ -59,8 +62,8 @@ fn sites_within(division: &[u8], m: usize, least: usize, most: usize) -> usize
 
 // 18 of a free plan: more than k sites are used. No site has more than all streets, so those with 1 street up to all are the used ones.
 fn used_refusal(division: &[u8], m: usize, k: usize) -> u8
-    requires { ⌜ m ≤ 64 ⌝ }
-    ensures { λ r. ⌜ r ≡ 18 when ltb k (sitesWith (ltb 0) m (now (division .entry))) ⌝ }
+    requires { ⌜ m ≤ mostSites ⌝ }
+    ensures { λ r. ⌜ r ≡ 18 when ltb k (sitesWith (ltb 0) m (was division)) ⌝ }
 {
     if k < sites_within(division, m, 1, division.len()) {
         return 18;
@@ -70,8 +73,8 @@ fn used_refusal(division: &[u8], m: usize, k: usize) -> u8
 
 // 18 of a balanced plan: not exactly k sites have their share.
 fn shared_refusal(division: &[u8], m: usize, k: usize, share: usize) -> u8
-    requires { ⌜ m ≤ 64 ⌝ }
-    ensures { λ r. ⌜ r ≡ 18 unless eqb (sitesWith (eqb share) m (now (division .entry))) k ⌝ }
+    requires { ⌜ m ≤ mostSites ⌝ }
+    ensures { λ r. ⌜ r ≡ 18 unless eqb (sitesWith (eqb share) m (was division)) k ⌝ }
 {
     if sites_within(division, m, share, share) != k {
         return 18;
@@ -82,7 +85,7 @@ fn shared_refusal(division: &[u8], m: usize, k: usize, share: usize) -> u8
 // The score that the street s gives a site.
 fn street_score(m: usize, scores: &[u16], rows: &[u8], s: usize, site: u8) -> u16
     requires { ⌜ s * m + m ≤ length (now rows) ⌝ }
-    ensures { λ r. ⌜ r ≡ value m (now (scores .entry)) (now (rows .entry)) s site ⌝ }
+    ensures { λ r. ⌜ r ≡ scoreOf (was scores) (rowAt m (was rows) s) site ⌝ }
 {
     let from = s * m;
     let to = from + m;
@@ -90,23 +93,30 @@ fn street_score(m: usize, scores: &[u16], rows: &[u8], s: usize, site: u8) -> u1
 }
 
 // The plan's total: the sum over the streets of the score that each gives its site, 0 for site 0.
-fn plan_total(m: usize, scores: &[u16], rows: &[u8], division: &[u8]) -> u32
-    requires { ⌜ (length (now rows) ≡ length (now division) * m) × (length (now division) ≤ 400) ⌝ }
-    ensures { λ r. ⌜ r ≡ divisionTotal (value m (now (scores .entry)) (now (rows .entry))) (now (division .entry)) ⌝ }
+fn plan_total(n: usize, m: usize, scores: &[u16], rows: &[u8], division: &[u8]) -> u32
+    requires { ⌜ (length (now rows) ≡ n * m) × (length (now division) ≡ n) × (n ≤ mostStreets) ⌝ }
+    ensures { λ r. ⌜ r ≡ divisionTotal (value (town n m scores rows)) (was division) ⌝ }
 {
     let mut total: u32 = 0;
-    for s in 0..division.len() {
+    for s in 0..n {
         total = total + street_score(m, scores, rows, s, division[s]) as u32;
     }
     total
 }
 
 // 19: the claimed total is not the plan's.
-fn claim_refusal(m: usize, scores: &[u16], rows: &[u8], division: &[u8], claimed: u32) -> u8
-    requires { ⌜ (length (now rows) ≡ length (now division) * m) × (length (now division) ≤ 400) ⌝ }
-    ensures { λ r. ⌜ r ≡ claimRefusal m (now (scores .entry)) (now (rows .entry)) (now (division .entry)) claimed ⌝ }
+fn claim_refusal(
+    n: usize,
+    m: usize,
+    scores: &[u16],
+    rows: &[u8],
+    division: &[u8],
+    claimed: u32,
+) -> u8
+    requires { ⌜ (length (now rows) ≡ n * m) × (length (now division) ≡ n) × (n ≤ mostStreets) ⌝ }
+    ensures { λ r. ⌜ r ≡ claimRefusal (town n m scores rows) (was division) claimed ⌝ }
 {
-    if claimed != plan_total(m, scores, rows, division) {
+    if claimed != plan_total(n, m, scores, rows, division) {
         return 19;
     }
     0
@@ -122,7 +132,7 @@ pub fn free_hand_refusal(
     division: &[u8],
     claimed: u32,
 ) -> u8
-    ensures { λ r. ⌜ r ≡ freeHandRefusal n m k (now (scores .entry)) (now (rows .entry)) (now (division .entry)) claimed ⌝ }
+    ensures { λ r. ⌜ Tried freeHandRefusal (handLent n m k scores rows division claimed) r ⌝ }
 {
     let own = refusals::length_refusal(division.len(), n);
     let r = check::survey_refusal(n, m, k, own, scores, rows);
@@ -137,7 +147,7 @@ pub fn free_hand_refusal(
     if r != 0 {
         return r;
     }
-    claim_refusal(m, scores, rows, division, claimed)
+    claim_refusal(n, m, scores, rows, division, claimed)
 }
 
 // A balanced hand plan: every street goes to a site, and k sites have the same share of the streets.
@@ -150,9 +160,9 @@ pub fn balanced_hand_refusal(
     division: &[u8],
     claimed: u32,
 ) -> u8
-    ensures { λ r. ⌜ r ≡ balancedHandRefusal n m k (now (scores .entry)) (now (rows .entry)) (now (division .entry)) claimed ⌝ }
+    ensures { λ r. ⌜ Tried balancedHandRefusal (handLent n m k scores rows division claimed) r ⌝ }
 {
-    let own = refusals::balance_refusal(n, k, division.len());
+    let own = refusals::balance_refusal(n, k, division);
     let r = check::survey_refusal(n, m, k, own, scores, rows);
     if r != 0 {
         return r;
@@ -165,5 +175,5 @@ pub fn balanced_hand_refusal(
     if r != 0 {
         return r;
     }
-    claim_refusal(m, scores, rows, division, claimed)
+    claim_refusal(n, m, scores, rows, division, claimed)
 }

@@ -1,5 +1,5 @@
-pub mod Laws
-pub mod Passing
-pub mod Freely
-pub mod Evenly
-pub mod Files
+pub mod Answers
+pub mod OwnTests
+pub mod FreePromises
+pub mod BalancedPromises
+pub mod FilePromises

@@ -1,4 +1,4 @@
--- What the entries' answers say, case by case: document 01's number, 0 where the call is accepted, and the total, 0 where it is refused.
+-- What the calls' answers say, case by case: document 01's number, 0 where the call is accepted, and the total, 0 where it is refused.
 -- Assumes nothing.
 use Prim.Native.Nat.{ℕ, zero, suc}
 use mathlib.Core.Path.{_≡_}
@@ -23,7 +23,7 @@ abbrev pub checkedAccepts : Checked → Bool
 checkedAccepts checked.Accepted = true
 checkedAccepts (checked.Refused x) = false
 
--- the answer of an entry that gives a total
+-- the answer of a call that gives a total
 abbrev pub number : Answer → ℕ
 number (answer.Total t) = 0
 number (answer.Refused x) = x
@@ -36,15 +36,16 @@ abbrev pub total : Answer → ℕ
 total (answer.Total t) = t
 total (answer.Refused x) = 0
 
--- the answer to a call whose first refusal is x: that number, and an acceptance exactly where it is 0
-pub record Answered (said : ℕ) (accepted : Bool) (x : ℕ) : Type 0 where
-  pub right-number : said ≡ x
-  pub right-case : accepted ≡ eqb x 0
+-- a check's answer to a call whose first refusal is x: that number, and an acceptance exactly where it is 0
+pub record Answered (r : Checked) (x : ℕ) : Type 0 where
+  pub right-number : checkedNumber r ≡ x
+  pub right-case : checkedAccepts r ≡ eqb x 0
 
 -- the same with a total: t where the call is accepted, and 0 where it is refused
-pub record Told (said : ℕ) (accepted : Bool) (reported x t : ℕ) : Type 0 where
-  pub answered : Answered said accepted x
-  pub right-total : reported ≡ t when eqb x 0
+pub record Told (r : Answer) (x t : ℕ) : Type 0 where
+  pub right-number : number r ≡ x
+  pub right-case : accepts r ≡ eqb x 0
+  pub right-total : total r ≡ t when eqb x 0
 
 -- the reader's answer to a file whose first refusal is x: the file's sizes and kind where it is 0, else that number
 abbrev pub readAnswer : ℕ → List ℕ → Read

@@ -1,3 +1,3 @@
-pub mod Plans
 pub mod Answers
 pub mod Good
+pub mod Calls

@@ -1,13 +1,73 @@
--- How an answer crosses to another language: as one number, and the reader's sizes through numbers that the caller lends.
+-- How a call's promise crosses to another language: its answer as one number, and the reader's sizes through numbers that the caller lends.
 -- Assumes nothing.
 use Prim.Native.Nat.{ℕ, zero, suc, _*_}
+use mathlib.Core.Path.{_≡_}
+use mathlib.Core.List.{List}
+use denote.Ref.{RefT}
+use denote.Triple.Both.{Both}
+use Rattle.survey.specs.Town.{is}
+use Rattle.survey_file.specs.Decode.{streetsIn, sitesIn, chosenIn, kindIn}
+use Rattle.refusals.specs.Inputs.{ReadInput}
+use Rattle.refusals.specs.Refusals.{readRefusal}
+use Rattle.planner.specs.declared.Checked.{Checked}
+use Rattle.planner.specs.declared.Answer.{Answer}
+use Rattle.planner.specs.declared.Read.{Read}
+use Rattle.planner.specs.declared.Read.the-variants as read
+use Rattle.planner.specs.Answers.{checkedNumber, number, total}
+use Rattle.planner.specs.Calls.{FileRead}
 
 -- an answer as one 64-bit number: the total where nothing is refused, else the refusal's number in the upper half and 0 in the lower
 abbrev pub packed : ℕ → ℕ → ℕ
 packed zero total = total
 packed (suc x) total = suc x * 4294967296
 
--- what a lent number holds after a call: the new one where its refusal number is 0, else what it held
-abbrev pub numberAfter : ℕ → ℕ → ℕ → ℕ
-numberAfter zero new old = new
-numberAfter (suc x) new old = old
+-- r packs an answer, by its number and total, of which P holds
+pub record Packs {A : Type 0} (number total : A → ℕ) (P : A → Type 0) (r : ℕ) : Type 0 where
+  pub answer : A
+  pub is : r ≡ packed (number answer) (total answer)
+  pub holds : P answer
+
+-- a check's answer, and one with a total
+abbrev pub PacksChecked : (Checked → Type 0) → ℕ → Type 0
+PacksChecked = Packs checkedNumber (λ r. 0)
+
+abbrev pub PacksAnswer : (Answer → Type 0) → ℕ → Type 0
+PacksAnswer = Packs number total
+
+-- ---- the reader
+-- the number of its answer
+abbrev pub readNumber : Read → ℕ
+readNumber (read.Survey n m k kind) = 0
+readNumber (read.Refused x) = x
+
+-- the four numbers that it is lent for a file's sizes and kind
+pub record Sizes : Type 0 where
+  pub n : ℕ
+  pub m : ℕ
+  pub k : ℕ
+  pub kind : ℕ
+
+abbrev pub sizesOf : ℕ → ℕ → ℕ → ℕ → Sizes
+sizesOf n m k kind = record { n = n; m = m; k = k; kind = kind }
+
+-- a lent number, and what the four hold when the call begins and when it ends
+abbrev pub LentNumber : Type 0
+LentNumber = Both (RefT ℕ) (RefT ℕ)
+
+abbrev pub sizesWere : LentNumber → LentNumber → LentNumber → LentNumber → Sizes
+sizesWere n m k kind = sizesOf (n .entry .now) (m .entry .now) (k .entry .now) (kind .entry .now)
+
+abbrev pub sizesAre : LentNumber → LentNumber → LentNumber → LentNumber → Sizes
+sizesAre n m k kind = sizesOf (n .exit .now) (m .exit .now) (k .exit .now) (kind .exit .now)
+
+-- what they hold after a refusal x: the file's sizes and kind where it is 0, else what they held
+abbrev pub sizesAfter : ℕ → List ℕ → Sizes → Sizes
+sizesAfter zero file old = sizesOf (streetsIn file) (sitesIn file) (chosenIn file) (kindIn file)
+sizesAfter (suc x) file old = old
+
+-- the reader's promise with these
+pub record FileReadInto (i : ReadInput) (rows scores : List ℕ) (before after : Sizes) (r : ℕ) : Type 0 where
+  -- the call's own promise; the total is 0
+  pub read : Packs readNumber (λ r. 0) (FileRead i rows scores) r
+  -- the sizes and the kind
+  pub sizes : after ≡ sizesAfter (readRefusal i) (i .file) before

@@ -5,15 +5,13 @@ use planner::Checked;
 use planner::Read;
 ghost use mathlib.Core.Path.{_≡_};
 ghost use lib.ListN.{length};
-ghost use Rattle.survey.specs.Rows.{rankedPart, scoreOf};
-ghost use Rattle.counting.specs.Buffers.{after};
-ghost use Rattle.survey_file.specs.Encode.{encode};
-ghost use Rattle.survey_file.specs.Decode.{streetsIn, sitesIn, chosenIn, kindIn};
-ghost use Rattle.refusals.specs.Refusals.{checkRefusal, rowScoreRefusal, listTotalRefusal, freeDivisionRefusal, balancedDivisionRefusal, freePlanRefusal, balancedPlanRefusal, floorRefusal, freeHandRefusal, balancedHandRefusal, writeRefusal, readRefusal};
-ghost use Rattle.planner.specs.Plans.{listTotal, freeDivision, freeSites, planTotal, balancedDivision, balancedSites, balancedTotal, planFloor, fileWritten, rowsRead, scoresRead};
-ghost use Rattle.planner.specs.Good.{GoodFree, BestDivision, GoodBalanced, Written, Filled};
+ghost use Rattle.survey.specs.Town.{was, is};
+ghost use Rattle.survey.specs.Rows.{rankedPart};
+ghost use Rattle.refusals.specs.Inputs.{surveyLent, rowLent, listLent, divisionLent, planLent, handLent, writeLent, readLent};
 ghost use Rattle.planner.specs.Answers.{checkedNumber, number, total};
-ghost use Rattle.planner_c.specs.Packed.{packed, numberAfter};
+ghost use Rattle.planner.specs.Calls.{SurveyChecked, FreePlanned, BalancedPlanned, FreeDivided, BalancedDivided, RowScored};
+ghost use Rattle.planner.specs.Calls.{ListTotalled, FloorGiven, FreeHandTested, BalancedHandTested, FileWritten};
+ghost use Rattle.planner_c.specs.Packed.{packed, PacksChecked, PacksAnswer, sizesWere, sizesAre, FileReadInto};
 
 // A refusal as one number: its own in the upper half.
 fn packed_refusal(x: u8) -> u64
@@ -51,7 +49,7 @@ pub extern "C" fn planner_check_survey(
     scores: &[u16],
     rows: &[u8],
 ) -> u64
-    ensures { λ r. ⌜ r ≡ packed (checkRefusal n m k (now (scores .entry)) (now (rows .entry))) 0 ⌝ }
+    ensures { λ r. ⌜ PacksChecked (SurveyChecked (surveyLent n m k scores rows)) r ⌝ }
 {
     packed_check(planner::check_survey(n, m, k, scores, rows))
 }
@@ -59,7 +57,7 @@ pub extern "C" fn planner_check_survey(
 // The length of the ranked part of a row; its bytes are the caller's own. Refuses nothing.
 #[no_mangle]
 pub extern "C" fn planner_ranked_part(row: &[u8]) -> usize
-    ensures { λ r. ⌜ r ≡ length (rankedPart (now (row .entry))) ⌝ }
+    ensures { λ r. ⌜ r ≡ length (rankedPart (was row)) ⌝ }
 {
     planner::ranked_part(row).len()
 }
@@ -67,7 +65,7 @@ pub extern "C" fn planner_ranked_part(row: &[u8]) -> usize
 // The score that one row of m bytes gives one site.
 #[no_mangle]
 pub extern "C" fn planner_row_score(m: usize, scores: &[u16], row: &[u8], site: u8) -> u64
-    ensures { λ r. ⌜ r ≡ packed (rowScoreRefusal m (now (scores .entry)) (now (row .entry)) site) (scoreOf (now (scores .entry)) (now (row .entry)) site) ⌝ }
+    ensures { λ r. ⌜ PacksAnswer (RowScored (rowLent m scores row site)) r ⌝ }
 {
     packed_answer(planner::row_score(m, scores, row, site))
 }
@@ -81,7 +79,7 @@ pub extern "C" fn planner_list_total(
     rows: &[u8],
     sites: &[u8],
 ) -> u64
-    ensures { λ r. ⌜ r ≡ packed (listTotalRefusal n m (now (scores .entry)) (now (rows .entry)) (now (sites .entry))) (listTotal n m (now (scores .entry)) (now (rows .entry)) (now (sites .entry))) ⌝ }
+    ensures { λ r. ⌜ PacksAnswer (ListTotalled (listLent n m scores rows sites)) r ⌝ }
 {
     packed_answer(planner::list_total(n, m, scores, rows, sites))
 }
@@ -96,8 +94,7 @@ pub extern "C" fn planner_free_division(
     sites: &[u8],
     division: &mut [u8],
 ) -> u64
-    ensures answer { λ r. ⌜ r ≡ packed (freeDivisionRefusal n m (now (scores .entry)) (now (rows .entry)) (now (sites .entry)) (now (division .entry))) (listTotal n m (now (scores .entry)) (now (rows .entry)) (now (sites .entry))) ⌝ }
-    ensures division { λ _. ⌜ now (division .exit) ≡ after (freeDivisionRefusal n m (now (scores .entry)) (now (rows .entry)) (now (sites .entry)) (now (division .entry))) (freeDivision n m (now (rows .entry)) (now (sites .entry))) (now (division .entry)) ⌝ }
+    ensures { λ r. ⌜ PacksAnswer (FreeDivided (divisionLent n m scores rows sites division) (is division)) r ⌝ }
 {
     packed_answer(planner::free_division(n, m, scores, rows, sites, division))
 }
@@ -112,9 +109,7 @@ pub extern "C" fn planner_balanced_division(
     sites: &[u8],
     division: &mut [u8],
 ) -> u64
-    ensures answer { λ r. ⌜ r ≡ packed (balancedDivisionRefusal n m (now (scores .entry)) (now (rows .entry)) (now (sites .entry)) (now (division .entry))) (planTotal m (now (scores .entry)) (now (rows .entry)) (balancedDivision n m (now (scores .entry)) (now (rows .entry)) (now (sites .entry)))) ⌝ }
-    ensures division { λ _. ⌜ now (division .exit) ≡ after (balancedDivisionRefusal n m (now (scores .entry)) (now (rows .entry)) (now (sites .entry)) (now (division .entry))) (balancedDivision n m (now (scores .entry)) (now (rows .entry)) (now (sites .entry))) (now (division .entry)) ⌝ }
-    ensures best { λ r. ⌜ (balancedDivisionRefusal n m (now (scores .entry)) (now (rows .entry)) (now (sites .entry)) (now (division .entry)) ≡ 0 → BestDivision n m (now (scores .entry)) (now (rows .entry)) (now (sites .entry)) (now (division .exit)) r) ⌝ }
+    ensures { λ r. ⌜ PacksAnswer (BalancedDivided (divisionLent n m scores rows sites division) (is division)) r ⌝ }
 {
     packed_answer(planner::balanced_division(n, m, scores, rows, sites, division))
 }
@@ -130,10 +125,7 @@ pub extern "C" fn planner_free_plan(
     division: &mut [u8],
     chosen: &mut [u8],
 ) -> u64
-    ensures answer { λ r. ⌜ r ≡ packed (freePlanRefusal n m k (now (scores .entry)) (now (rows .entry)) (now (division .entry)) (now (chosen .entry))) (listTotal n m (now (scores .entry)) (now (rows .entry)) (freeSites n m k (now (scores .entry)) (now (rows .entry)))) ⌝ }
-    ensures division { λ _. ⌜ now (division .exit) ≡ after (freePlanRefusal n m k (now (scores .entry)) (now (rows .entry)) (now (division .entry)) (now (chosen .entry))) (freeDivision n m (now (rows .entry)) (freeSites n m k (now (scores .entry)) (now (rows .entry)))) (now (division .entry)) ⌝ }
-    ensures chosen { λ _. ⌜ now (chosen .exit) ≡ after (freePlanRefusal n m k (now (scores .entry)) (now (rows .entry)) (now (division .entry)) (now (chosen .entry))) (freeSites n m k (now (scores .entry)) (now (rows .entry))) (now (chosen .entry)) ⌝ }
-    ensures good { λ r. ⌜ (freePlanRefusal n m k (now (scores .entry)) (now (rows .entry)) (now (division .entry)) (now (chosen .entry)) ≡ 0 → GoodFree n m k (now (scores .entry)) (now (rows .entry)) (now (division .exit)) (now (chosen .exit)) r) ⌝ }
+    ensures { λ r. ⌜ PacksAnswer (FreePlanned (planLent n m k scores rows division chosen) (is division) (is chosen)) r ⌝ }
 {
     packed_answer(planner::free_plan(n, m, k, scores, rows, division, chosen))
 }
@@ -149,10 +141,7 @@ pub extern "C" fn planner_balanced_plan(
     division: &mut [u8],
     chosen: &mut [u8],
 ) -> u64
-    ensures answer { λ r. ⌜ r ≡ packed (balancedPlanRefusal n m k (now (scores .entry)) (now (rows .entry)) (now (division .entry)) (now (chosen .entry))) (balancedTotal n m k (now (scores .entry)) (now (rows .entry))) ⌝ }
-    ensures division { λ _. ⌜ now (division .exit) ≡ after (balancedPlanRefusal n m k (now (scores .entry)) (now (rows .entry)) (now (division .entry)) (now (chosen .entry))) (balancedDivision n m (now (scores .entry)) (now (rows .entry)) (balancedSites n m k (now (scores .entry)) (now (rows .entry)))) (now (division .entry)) ⌝ }
-    ensures chosen { λ _. ⌜ now (chosen .exit) ≡ after (balancedPlanRefusal n m k (now (scores .entry)) (now (rows .entry)) (now (division .entry)) (now (chosen .entry))) (balancedSites n m k (now (scores .entry)) (now (rows .entry))) (now (chosen .entry)) ⌝ }
-    ensures good { λ r. ⌜ (balancedPlanRefusal n m k (now (scores .entry)) (now (rows .entry)) (now (division .entry)) (now (chosen .entry)) ≡ 0 → GoodBalanced n m k (now (scores .entry)) (now (rows .entry)) (now (division .exit)) (now (chosen .exit)) r) ⌝ }
+    ensures { λ r. ⌜ PacksAnswer (BalancedPlanned (planLent n m k scores rows division chosen) (is division) (is chosen)) r ⌝ }
 {
     packed_answer(planner::balanced_plan(n, m, k, scores, rows, division, chosen))
 }
@@ -160,7 +149,7 @@ pub extern "C" fn planner_balanced_plan(
 // The floor: what every balanced plan of k sites totals at least.
 #[no_mangle]
 pub extern "C" fn planner_floor(n: usize, m: usize, k: usize, scores: &[u16], rows: &[u8]) -> u64
-    ensures { λ r. ⌜ r ≡ packed (floorRefusal n m k (now (scores .entry)) (now (rows .entry))) (planFloor n m k (now (scores .entry)) (now (rows .entry))) ⌝ }
+    ensures { λ r. ⌜ PacksAnswer (FloorGiven (surveyLent n m k scores rows)) r ⌝ }
 {
     packed_answer(planner::floor(n, m, k, scores, rows))
 }
@@ -176,7 +165,7 @@ pub extern "C" fn planner_free_hand(
     division: &[u8],
     claimed: u32,
 ) -> u64
-    ensures { λ r. ⌜ r ≡ packed (freeHandRefusal n m k (now (scores .entry)) (now (rows .entry)) (now (division .entry)) claimed) (planTotal m (now (scores .entry)) (now (rows .entry)) (now (division .entry))) ⌝ }
+    ensures { λ r. ⌜ PacksAnswer (FreeHandTested (handLent n m k scores rows division claimed)) r ⌝ }
 {
     packed_answer(planner::free_hand(n, m, k, scores, rows, division, claimed))
 }
@@ -192,7 +181,7 @@ pub extern "C" fn planner_balanced_hand(
     division: &[u8],
     claimed: u32,
 ) -> u64
-    ensures { λ r. ⌜ r ≡ packed (balancedHandRefusal n m k (now (scores .entry)) (now (rows .entry)) (now (division .entry)) claimed) (planTotal m (now (scores .entry)) (now (rows .entry)) (now (division .entry))) ⌝ }
+    ensures { λ r. ⌜ PacksAnswer (BalancedHandTested (handLent n m k scores rows division claimed)) r ⌝ }
 {
     packed_answer(planner::balanced_hand(n, m, k, scores, rows, division, claimed))
 }
@@ -208,9 +197,7 @@ pub extern "C" fn planner_write_file(
     rows: &[u8],
     file: &mut [u8],
 ) -> u64
-    ensures answer { λ r. ⌜ r ≡ packed (writeRefusal n m k kind (now (scores .entry)) (now (rows .entry)) (now (file .entry))) (length (encode n m k kind (now (scores .entry)) (now (rows .entry)))) ⌝ }
-    ensures file { λ _. ⌜ now (file .exit) ≡ after (writeRefusal n m k kind (now (scores .entry)) (now (rows .entry)) (now (file .entry))) (fileWritten n m k kind (now (scores .entry)) (now (rows .entry)) (now (file .entry))) (now (file .entry)) ⌝ }
-    ensures back { λ r. ⌜ (writeRefusal n m k kind (now (scores .entry)) (now (rows .entry)) (now (file .entry)) ≡ 0 → Written n m k kind (now (scores .entry)) (now (rows .entry)) (now (file .exit)) r) ⌝ }
+    ensures { λ r. ⌜ PacksAnswer (FileWritten (writeLent n m k kind scores rows file) (is file)) r ⌝ }
 {
     packed_answer(planner::write_file(n, m, k, kind, scores, rows, file))
 }
@@ -227,14 +214,7 @@ pub extern "C" fn planner_read_file(
     k: &mut usize,
     kind: &mut usize,
 ) -> u64
-    ensures answer { λ r. ⌜ r ≡ packed (readRefusal (now (file .entry)) (now (rows .entry)) (now (scores .entry))) 0 ⌝ }
-    ensures rows { λ _. ⌜ now (rows .exit) ≡ after (readRefusal (now (file .entry)) (now (rows .entry)) (now (scores .entry))) (rowsRead (now (file .entry)) (now (rows .entry))) (now (rows .entry)) ⌝ }
-    ensures scores { λ _. ⌜ now (scores .exit) ≡ after (readRefusal (now (file .entry)) (now (rows .entry)) (now (scores .entry))) (scoresRead (now (file .entry)) (now (scores .entry))) (now (scores .entry)) ⌝ }
-    ensures streets { λ _. ⌜ now (n .exit) ≡ numberAfter (readRefusal (now (file .entry)) (now (rows .entry)) (now (scores .entry))) (streetsIn (now (file .entry))) (now (n .entry)) ⌝ }
-    ensures sites { λ _. ⌜ now (m .exit) ≡ numberAfter (readRefusal (now (file .entry)) (now (rows .entry)) (now (scores .entry))) (sitesIn (now (file .entry))) (now (m .entry)) ⌝ }
-    ensures chosen { λ _. ⌜ now (k .exit) ≡ numberAfter (readRefusal (now (file .entry)) (now (rows .entry)) (now (scores .entry))) (chosenIn (now (file .entry))) (now (k .entry)) ⌝ }
-    ensures kind { λ _. ⌜ now (kind .exit) ≡ numberAfter (readRefusal (now (file .entry)) (now (rows .entry)) (now (scores .entry))) (kindIn (now (file .entry))) (now (kind .entry)) ⌝ }
-    ensures back { λ _. ⌜ (readRefusal (now (file .entry)) (now (rows .entry)) (now (scores .entry)) ≡ 0 → Filled (now (file .entry))) ⌝ }
+    ensures { λ r. ⌜ FileReadInto (readLent file rows scores) (is rows) (is scores) (sizesWere n m k kind) (sizesAre n m k kind) r ⌝ }
 {
     let answer = planner::read_file(file, rows, scores);
     match answer {

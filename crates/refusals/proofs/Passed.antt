@@ -1,7 +1,6 @@
 -- A hand plan of an accepted survey that has what its definition asks for passes its test, and the claim of one that passes is right.
 -- Assumes nothing.
 use mathlib.Core.Path.{_≡_, sym, ap, _∙_}
-use mathlib.Core.List.{List}
 use Prim.Native.Nat.{ℕ, _/_, _≤_, _<_, zero-le}
 use native.Mathlib.Omega.{arith}
 use lib.Dec.{ltb, eqb, lit<}
@@ -13,43 +12,49 @@ use Rattle.survey.specs.Refusals.{shareRefusal, surveyRefusal}
 use Rattle.survey.proofs.Sound.{own-accepted}
 use Rattle.division.specs.Shares.{divisionTotal}
 use Rattle.survey_file.proofs.Tries.{both, in-range, not-above, as-due}
-use Rattle.refusals.specs.Refusals.{rangesRefusal, sitesWith, claimRefusal, freeHandRefusal, balancedHandRefusal}
+use Rattle.refusals.specs.Inputs.{HandInput}
+use Rattle.refusals.specs.Refusals.{Tried, rangesRefusal, sitesWith, claimRefusal, freeHandRefusal, balancedHandRefusal}
+use Rattle.refusals.proofs.Listed.{passed}
 
-module _ (n m k own : ℕ) (scores rows division : List ℕ) (claimed : ℕ) (ok : surveyRefusal n m k own scores rows ≡ 0) (size : length division ≡ n)
-    (right : claimed ≡ divisionTotal (value m scores rows) division) where
+module _ (i : HandInput) (own : ℕ) (ok : surveyRefusal (i .town) (i .k) own ≡ 0) (size : length (i .division) ≡ i .town .n)
+    (right : i .claimed ≡ divisionTotal (value (i .town)) (i .division)) where
   -- a survey that is accepted by one call is accepted by each whose own tries refuse nothing
-  again : (other : ℕ) → other ≡ 0 → surveyRefusal n m k other scores rows ≡ 0
-  again other z = ap (λ (x : ℕ). surveyRefusal n m k x scores rows) (z ∙ sym (own-accepted n m k own scores rows ok)) ∙ ok
+  again : (other : ℕ) → other ≡ 0 → surveyRefusal (i .town) (i .k) other ≡ 0
+  again other z = ap (λ (x : ℕ). surveyRefusal (i .town) (i .k) x) (z ∙ sym (own-accepted (i .town) (i .k) own ok)) ∙ ok
 
   -- sites in their range are not refused
-  in-ranges : (low : ℕ) → ((s : ℕ) → s < n → (low ≤ at division s) × (at division s ≤ m)) → rangesRefusal low m division ≡ 0
-  in-ranges low h = first-zeros (length division) _ (λ s l. let (a, b) = h s (omega arith) in in-range 17 (at division s) low m a b)
+  in-ranges : (low : ℕ) → ((s : ℕ) → s < i .town .n → (low ≤ at (i .division) s) × (at (i .division) s ≤ i .town .m))
+      → rangesRefusal low (i .town .m) (i .division) ≡ 0
+  in-ranges low h =
+      first-zeros (length (i .division)) _ (λ s l. let (a, b) = h s (omega arith) in in-range 17 (at (i .division) s) low (i .town .m) a b)
 
   -- nor is a claim that is right
-  claim : claimRefusal m scores rows division claimed ≡ 0
-  claim = as-due 19 claimed _ right
+  claim : claimRefusal (i .town) (i .division) (i .claimed) ≡ 0
+  claim = as-due 19 (i .claimed) _ right
 
   -- at most k sites are used
-  pub free-passed : ((s : ℕ) → s < n → at division s ≤ m) → sitesWith (ltb 0) m division ≤ k → freeHandRefusal n m k scores rows division claimed ≡ 0
+  pub free-passed : ((s : ℕ) → s < i .town .n → at (i .division) s ≤ i .town .m) → sitesWith (ltb 0) (i .town .m) (i .division) ≤ i .k
+      → freeHandRefusal i ≡ 0
   free-passed sites few =
-      both _ _ (again _ (as-due 6 (length division) n size))
-      (both _ _ (in-ranges 0 (λ s l. (zero-le, sites s l))) (both _ _ (not-above 18 _ k few) claim))
+      both _ _ (again _ (as-due 6 (length (i .division)) (i .town .n) size))
+      (both _ _ (in-ranges 0 (λ s l. (zero-le, sites s l))) (both _ _ (not-above 18 _ (i .k) few) claim))
 
   -- k sites have their share
-  pub balanced-passed : shareRefusal n k ≡ 0 → ((s : ℕ) → s < n → (0 < at division s) × (at division s ≤ m)) → sitesWith (eqb (n / k)) m division ≡ k
-      → balancedHandRefusal n m k scores rows division claimed ≡ 0
+  pub balanced-passed : shareRefusal (i .town .n) (i .k) ≡ 0
+      → ((s : ℕ) → s < i .town .n → (0 < at (i .division) s) × (at (i .division) s ≤ i .town .m))
+      → sitesWith (eqb (i .town .n / i .k)) (i .town .m) (i .division) ≡ i .k → balancedHandRefusal i ≡ 0
   balanced-passed even sites shared =
-      both _ _ (again _ (both _ _ even (as-due 6 (length division) n size)))
-      (both _ _ (in-ranges 1 sites) (both _ _ (as-due 18 _ k shared) claim))
+      both _ _ (again _ (both _ _ even (as-due 6 (length (i .division)) (i .town .n) size)))
+      (both _ _ (in-ranges 1 sites) (both _ _ (as-due 18 _ (i .k) shared) claim))
 
 -- ---- a plan that passes
-module _ (n m k : ℕ) (scores rows division : List ℕ) (claimed : ℕ) where
-  -- its claim is the last thing that is tried
-  claim-right : claimRefusal m scores rows division claimed ≡ 0 → claimed ≡ divisionTotal (value m scores rows) division
-  claim-right z = exact 19 claimed _ (lit< tt) z
+-- its claim is the last thing that is tried
+claim-right : (i : HandInput) → claimRefusal (i .town) (i .division) (i .claimed) ≡ 0 → i .claimed ≡ divisionTotal (value (i .town)) (i .division)
+claim-right i z = exact 19 (i .claimed) _ (lit< tt) z
 
-  pub free-claimed : freeHandRefusal n m k scores rows division claimed ≡ 0 → claimed ≡ divisionTotal (value m scores rows) division
-  free-claimed z = claim-right (or-zero _ _ (or-zero _ _ (or-zero _ _ z .1) .1) .1)
+module _ {i : HandInput} {x : ℕ} where
+  pub free-claimed : Tried freeHandRefusal i x → x ≡ 0 → i .claimed ≡ divisionTotal (value (i .town)) (i .division)
+  free-claimed tried z = claim-right i (or-zero _ _ (or-zero _ _ (or-zero _ _ (passed tried z) .1) .1) .1)
 
-  pub balanced-claimed : balancedHandRefusal n m k scores rows division claimed ≡ 0 → claimed ≡ divisionTotal (value m scores rows) division
-  balanced-claimed z = claim-right (or-zero _ _ (or-zero _ _ (or-zero _ _ z .1) .1) .1)
+  pub balanced-claimed : Tried balancedHandRefusal i x → x ≡ 0 → i .claimed ≡ divisionTotal (value (i .town)) (i .division)
+  balanced-claimed tried z = claim-right i (or-zero _ _ (or-zero _ _ (or-zero _ _ (passed tried z) .1) .1) .1)

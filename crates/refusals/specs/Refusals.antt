@@ -1,36 +1,44 @@
--- For each entry the first of document 01's numbers that applies, and 0 where the call is accepted. A division, a list of sites and a file
+-- For each call the first of document 01's numbers that applies, and 0 where the call is accepted. A division, a list of sites and a file
 -- are the lists of their bytes; of a buffer that is only written its length decides.
 -- Assumes nothing.
 use Prim.Native.Nat.{ℕ, suc, _/_}
+use mathlib.Core.Path.{_≡_}
 use mathlib.Core.Bool.{Bool}
 use mathlib.Core.List.{List}
 use lib.Dec.{ltb, eqb}
 use lib.ListN.{length, take}
+use Rattle.counting.specs.Bounds.{mostSites, mostRows}
 use Rattle.counting.specs.Words.{_when_, _unless_, _orElse_, firstOf, countOf, outside}
 use Rattle.counting.specs.Lists.{at, has, count}
+use Rattle.survey.specs.Town.{Town}
 use Rattle.survey.specs.Rows.{value}
 use Rattle.survey.specs.Refusals.{sitesRefusal, kindRefusal, shareRefusal, lengthRefusal, scoresRefusal, rowRefusal, surveyRefusal}
 use Rattle.division.specs.Shares.{divisionTotal}
 use Rattle.survey_file.specs.Encode.{encode}
 use Rattle.survey_file.specs.Decode.{fileRefusal}
+use Rattle.refusals.specs.Inputs.{SurveyInput, RowInput, ListInput, DivisionInput, PlanInput, HandInput, WriteInput, ReadInput}
+
+-- the number that a call's tries gave for an input is the first of the call's chain
+pub record Tried {A : Type 0} (chain : A → ℕ) (input : A) (x : ℕ) : Type 0 where
+  pub first : x ≡ chain input
 
 -- check of a survey
-abbrev pub checkRefusal : ℕ → ℕ → ℕ → List ℕ → List ℕ → ℕ
-checkRefusal n m k scores rows = surveyRefusal n m k 0 scores rows
+abbrev pub checkRefusal : SurveyInput → ℕ
+checkRefusal i = surveyRefusal (i .town) (i .k) 0
 
 -- 17: a site outside a range
 abbrev pub rangeRefusal : ℕ → ℕ → ℕ → ℕ
 rangeRefusal low m site = 17 when outside site low m
 
 -- score of one row for one site
-abbrev pub rowScoreRefusal : ℕ → List ℕ → List ℕ → ℕ → ℕ
-rowScoreRefusal m scores row site =
-    sitesRefusal m orElse
-    lengthRefusal (length scores) m orElse
-    lengthRefusal (length row) m orElse
-    scoresRefusal scores orElse
-    rowRefusal m row orElse
-    rangeRefusal 1 m site
+abbrev pub rowScoreRefusal : RowInput → ℕ
+rowScoreRefusal i =
+    sitesRefusal (i .m) orElse
+    lengthRefusal (length (i .scores)) (i .m) orElse
+    lengthRefusal (length (i .row)) (i .m) orElse
+    scoresRefusal (i .scores) orElse
+    rowRefusal (i .m) (i .row) orElse
+    rangeRefusal 1 (i .m) (i .site)
 
 -- 17 all through a list
 abbrev pub rangesRefusal : ℕ → ℕ → List ℕ → ℕ
@@ -44,72 +52,76 @@ twiceRefusal sites = firstOf (length sites) (λ j. 20 when has (at sites j) (tak
 abbrev pub listRefusal : ℕ → List ℕ → ℕ
 listRefusal m sites = rangesRefusal 1 m sites orElse twiceRefusal sites
 
+-- a survey with a given list of sites; `own` is what the call tries besides
+abbrev pub listedRefusal : Town → List ℕ → ℕ → ℕ
+listedRefusal t sites own = surveyRefusal t (length sites) own orElse listRefusal (t .m) sites
+
 -- total of a list of sites
-abbrev pub listTotalRefusal : ℕ → ℕ → List ℕ → List ℕ → List ℕ → ℕ
-listTotalRefusal n m scores rows sites = surveyRefusal n m (length sites) 0 scores rows orElse listRefusal m sites
+abbrev pub listTotalRefusal : ListInput → ℕ
+listTotalRefusal i = listedRefusal (i .town) (i .sites) 0
 
 -- free division over a list of sites
-abbrev pub freeDivisionRefusal : ℕ → ℕ → List ℕ → List ℕ → List ℕ → List ℕ → ℕ
-freeDivisionRefusal n m scores rows sites division =
-    surveyRefusal n m (length sites) (lengthRefusal (length division) n) scores rows orElse
-    listRefusal m sites
+abbrev pub freeDivisionRefusal : DivisionInput → ℕ
+freeDivisionRefusal i = listedRefusal (i .town) (i .sites) (lengthRefusal (length (i .division)) (i .town .n))
+
+-- 5, then 6 for a division
+abbrev pub balanceRefusal : ℕ → ℕ → List ℕ → ℕ
+balanceRefusal n k division = shareRefusal n k orElse lengthRefusal (length division) n
 
 -- balanced division over a list of sites
-abbrev pub balancedDivisionRefusal : ℕ → ℕ → List ℕ → List ℕ → List ℕ → List ℕ → ℕ
-balancedDivisionRefusal n m scores rows sites division =
-    surveyRefusal n m (length sites) (shareRefusal n (length sites) orElse lengthRefusal (length division) n) scores rows orElse
-    listRefusal m sites
+abbrev pub balancedDivisionRefusal : DivisionInput → ℕ
+balancedDivisionRefusal i = listedRefusal (i .town) (i .sites) (balanceRefusal (i .town .n) (length (i .sites)) (i .division))
 
 -- 6 for the two buffers of a plan
 abbrev pub buffersRefusal : ℕ → ℕ → List ℕ → List ℕ → ℕ
 buffersRefusal n k division chosen = lengthRefusal (length division) n orElse lengthRefusal (length chosen) k
 
 -- free plan
-abbrev pub freePlanRefusal : ℕ → ℕ → ℕ → List ℕ → List ℕ → List ℕ → List ℕ → ℕ
-freePlanRefusal n m k scores rows division chosen = surveyRefusal n m k (buffersRefusal n k division chosen) scores rows
+abbrev pub freePlanRefusal : PlanInput → ℕ
+freePlanRefusal i = surveyRefusal (i .town) (i .k) (buffersRefusal (i .town .n) (i .k) (i .division) (i .chosen))
 
 -- balanced plan
-abbrev pub balancedPlanRefusal : ℕ → ℕ → ℕ → List ℕ → List ℕ → List ℕ → List ℕ → ℕ
-balancedPlanRefusal n m k scores rows division chosen =
-    surveyRefusal n m k (shareRefusal n k orElse buffersRefusal n k division chosen) scores rows
+abbrev pub balancedPlanRefusal : PlanInput → ℕ
+balancedPlanRefusal i =
+    surveyRefusal (i .town) (i .k) (shareRefusal (i .town .n) (i .k) orElse buffersRefusal (i .town .n) (i .k) (i .division) (i .chosen))
 
 -- floor
-abbrev pub floorRefusal : ℕ → ℕ → ℕ → List ℕ → List ℕ → ℕ
-floorRefusal n m k scores rows = surveyRefusal n m k (shareRefusal n k) scores rows
+abbrev pub floorRefusal : SurveyInput → ℕ
+floorRefusal i = surveyRefusal (i .town) (i .k) (shareRefusal (i .town .n) (i .k))
 
 -- the sites of 1 to m that have a number of streets that passes the test
 abbrev pub sitesWith : (ℕ → Bool) → ℕ → List ℕ → ℕ
 sitesWith test m division = countOf m (λ i. test (count division (suc i)))
 
 -- 19: the claimed total is not the plan's
-abbrev pub claimRefusal : ℕ → List ℕ → List ℕ → List ℕ → ℕ → ℕ
-claimRefusal m scores rows division claimed = 19 unless eqb claimed (divisionTotal (value m scores rows) division)
+abbrev pub claimRefusal : Town → List ℕ → ℕ → ℕ
+claimRefusal t division claimed = 19 unless eqb claimed (divisionTotal (value t) division)
 
 -- free hand plan; 18: more than k sites are used, 0 not counted
-abbrev pub freeHandRefusal : ℕ → ℕ → ℕ → List ℕ → List ℕ → List ℕ → ℕ → ℕ
-freeHandRefusal n m k scores rows division claimed =
-    surveyRefusal n m k (lengthRefusal (length division) n) scores rows orElse
-    rangesRefusal 0 m division orElse
-    18 when ltb k (sitesWith (ltb 0) m division) orElse
-    claimRefusal m scores rows division claimed
+abbrev pub freeHandRefusal : HandInput → ℕ
+freeHandRefusal i =
+    surveyRefusal (i .town) (i .k) (lengthRefusal (length (i .division)) (i .town .n)) orElse
+    rangesRefusal 0 (i .town .m) (i .division) orElse
+    18 when ltb (i .k) (sitesWith (ltb 0) (i .town .m) (i .division)) orElse
+    claimRefusal (i .town) (i .division) (i .claimed)
 
 -- balanced hand plan; 18: not exactly k sites have n / k streets each
-abbrev pub balancedHandRefusal : ℕ → ℕ → ℕ → List ℕ → List ℕ → List ℕ → ℕ → ℕ
-balancedHandRefusal n m k scores rows division claimed =
-    surveyRefusal n m k (shareRefusal n k orElse lengthRefusal (length division) n) scores rows orElse
-    rangesRefusal 1 m division orElse
-    18 unless eqb (sitesWith (eqb (n / k)) m division) k orElse
-    claimRefusal m scores rows division claimed
+abbrev pub balancedHandRefusal : HandInput → ℕ
+balancedHandRefusal i =
+    surveyRefusal (i .town) (i .k) (balanceRefusal (i .town .n) (i .k) (i .division)) orElse
+    rangesRefusal 1 (i .town .m) (i .division) orElse
+    18 unless eqb (sitesWith (eqb (i .town .n / i .k)) (i .town .m) (i .division)) (i .k) orElse
+    claimRefusal (i .town) (i .division) (i .claimed)
 
 -- reading a file into a row buffer and a score buffer
-abbrev pub readRefusal : List ℕ → List ℕ → List ℕ → ℕ
-readRefusal file rows scores =
-    lengthRefusal (length rows) 25600 orElse
-    lengthRefusal (length scores) 64 orElse
-    fileRefusal file
+abbrev pub readRefusal : ReadInput → ℕ
+readRefusal i =
+    lengthRefusal (length (i .rows)) mostRows orElse
+    lengthRefusal (length (i .scores)) mostSites orElse
+    fileRefusal (i .file)
 
 -- writing a file; 7: the file buffer is shorter than the file
-abbrev pub writeRefusal : ℕ → ℕ → ℕ → ℕ → List ℕ → List ℕ → List ℕ → ℕ
-writeRefusal n m k kind scores rows file =
-    surveyRefusal n m k (kindRefusal kind) scores rows orElse
-    7 when ltb (length file) (length (encode n m k kind scores rows))
+abbrev pub writeRefusal : WriteInput → ℕ
+writeRefusal i =
+    surveyRefusal (i .town) (i .k) (kindRefusal (i .kind)) orElse
+    7 when ltb (length (i .file)) (length (encode (i .town) (i .k) (i .kind)))

@@ -3,10 +3,12 @@ use survey::Survey;
 use survey::check;
 ghost use mathlib.Core.Path.{_≡_};
 ghost use Prim.Native.Nat.{_%_};
-ghost use lib.ListN.{length};
 ghost use Rattle.counting.specs.Words.{_when_, _orElse_};
-ghost use Rattle.survey.specs.Refusals.{shareRefusal, lengthRefusal, surveyRefusal};
-ghost use Rattle.refusals.specs.Refusals.{rangeRefusal, rowScoreRefusal, rangesRefusal, twiceRefusal, listRefusal, listTotalRefusal, freeDivisionRefusal, balancedDivisionRefusal, buffersRefusal, freePlanRefusal, balancedPlanRefusal, floorRefusal};
+ghost use Rattle.survey.specs.Town.{town, was};
+ghost use Rattle.survey.specs.Refusals.{shareRefusal, lengthRefusal};
+ghost use Rattle.refusals.specs.Inputs.{surveyLent, rowLent, listLent, divisionLent, planLent};
+ghost use Rattle.refusals.specs.Refusals.{Tried, rangeRefusal, rowScoreRefusal, rangesRefusal, twiceRefusal, listRefusal, listedRefusal};
+ghost use Rattle.refusals.specs.Refusals.{listTotalRefusal, freeDivisionRefusal, balanceRefusal, balancedDivisionRefusal, buffersRefusal, freePlanRefusal, balancedPlanRefusal, floorRefusal};
 
 // 6: a lent buffer of other than its exact length.
 pub fn length_refusal(given: usize, due: usize) -> u8
@@ -33,7 +35,7 @@ fn range_refusal(low: u8, m: usize, site: u8) -> u8
 
 // The first refusal of a row of m bytes and a site, with the scores.
 pub fn row_score_refusal(m: usize, scores: &[u16], row: &[u8], site: u8) -> u8
-    ensures { λ r. ⌜ r ≡ rowScoreRefusal m (now (scores .entry)) (now (row .entry)) site ⌝ }
+    ensures { λ r. ⌜ Tried rowScoreRefusal (rowLent m scores row site) r ⌝ }
 {
     if m < 1 {
         return 2;
@@ -60,7 +62,7 @@ pub fn row_score_refusal(m: usize, scores: &[u16], row: &[u8], site: u8) -> u8
 
 // 17 all through a list of sites.
 pub fn ranges_refusal(low: u8, m: usize, sites: &[u8]) -> u8
-    ensures { λ r. ⌜ r ≡ rangesRefusal low m (now (sites .entry)) ⌝ }
+    ensures { λ r. ⌜ r ≡ rangesRefusal low m (was sites) ⌝ }
 {
     for j in 0..sites.len() {
         let r = range_refusal(low, m, sites[j]);
@@ -83,7 +85,7 @@ fn again_refusal(again: bool) -> u8
 
 // 20: a site that is listed twice. The table of sites seen so far spares a scan of the list for each site.
 pub fn twice_refusal(sites: &[u8]) -> u8
-    ensures { λ r. ⌜ r ≡ twiceRefusal (now (sites .entry)) ⌝ }
+    ensures { λ r. ⌜ r ≡ twiceRefusal (was sites) ⌝ }
 {
     let mut seen = [false; 256];
     for j in 0..sites.len() {
@@ -99,7 +101,7 @@ pub fn twice_refusal(sites: &[u8]) -> u8
 
 // A given list of sites: 17 all through, then 20.
 pub fn list_refusal(m: usize, sites: &[u8]) -> u8
-    ensures { λ r. ⌜ r ≡ listRefusal m (now (sites .entry)) ⌝ }
+    ensures { λ r. ⌜ r ≡ listRefusal m (was sites) ⌝ }
 {
     let r = ranges_refusal(1, m, sites);
     if r != 0 {
@@ -110,7 +112,7 @@ pub fn list_refusal(m: usize, sites: &[u8]) -> u8
 
 // A survey with a given list of sites; `own` is what the call tries besides between 3 and 8.
 fn listed_refusal(n: usize, m: usize, own: u8, scores: &[u16], rows: &[u8], sites: &[u8]) -> u8
-    ensures { λ r. ⌜ r ≡ surveyRefusal n m (length (now (sites .entry))) own (now (scores .entry)) (now (rows .entry)) orElse listRefusal m (now (sites .entry)) ⌝ }
+    ensures { λ r. ⌜ r ≡ listedRefusal (town n m scores rows) (was sites) own ⌝ }
 {
     let r = check::survey_refusal(n, m, sites.len(), own, scores, rows);
     if r != 0 {
@@ -121,7 +123,7 @@ fn listed_refusal(n: usize, m: usize, own: u8, scores: &[u16], rows: &[u8], site
 
 // The total of a list of sites.
 pub fn list_total_refusal(n: usize, m: usize, scores: &[u16], rows: &[u8], sites: &[u8]) -> u8
-    ensures { λ r. ⌜ r ≡ listTotalRefusal n m (now (scores .entry)) (now (rows .entry)) (now (sites .entry)) ⌝ }
+    ensures { λ r. ⌜ Tried listTotalRefusal (listLent n m scores rows sites) r ⌝ }
 {
     listed_refusal(n, m, 0, scores, rows, sites)
 }
@@ -135,7 +137,7 @@ pub fn free_division_refusal(
     sites: &[u8],
     division: &[u8],
 ) -> u8
-    ensures { λ r. ⌜ r ≡ freeDivisionRefusal n m (now (scores .entry)) (now (rows .entry)) (now (sites .entry)) (now (division .entry)) ⌝ }
+    ensures { λ r. ⌜ Tried freeDivisionRefusal (divisionLent n m scores rows sites division) r ⌝ }
 {
     let own = length_refusal(division.len(), n);
     listed_refusal(n, m, own, scores, rows, sites)
@@ -162,14 +164,14 @@ fn share_refusal(n: usize, k: usize) -> u8
 }
 
 // What a balanced division is tried for besides: 5, then 6 for its buffer.
-pub fn balance_refusal(n: usize, k: usize, given: usize) -> u8
-    ensures { λ r. ⌜ r ≡ shareRefusal n k orElse lengthRefusal given n ⌝ }
+pub fn balance_refusal(n: usize, k: usize, division: &[u8]) -> u8
+    ensures { λ r. ⌜ r ≡ balanceRefusal n k (was division) ⌝ }
 {
     let r = share_refusal(n, k);
     if r != 0 {
         return r;
     }
-    length_refusal(given, n)
+    length_refusal(division.len(), n)
 }
 
 // A balanced division over a list of sites.
@@ -181,15 +183,15 @@ pub fn balanced_division_refusal(
     sites: &[u8],
     division: &[u8],
 ) -> u8
-    ensures { λ r. ⌜ r ≡ balancedDivisionRefusal n m (now (scores .entry)) (now (rows .entry)) (now (sites .entry)) (now (division .entry)) ⌝ }
+    ensures { λ r. ⌜ Tried balancedDivisionRefusal (divisionLent n m scores rows sites division) r ⌝ }
 {
-    let own = balance_refusal(n, sites.len(), division.len());
+    let own = balance_refusal(n, sites.len(), division);
     listed_refusal(n, m, own, scores, rows, sites)
 }
 
 // 6 for the two buffers of a plan.
 fn buffers_refusal(n: usize, k: usize, division: &[u8], chosen: &[u8]) -> u8
-    ensures { λ r. ⌜ r ≡ buffersRefusal n k (now (division .entry)) (now (chosen .entry)) ⌝ }
+    ensures { λ r. ⌜ r ≡ buffersRefusal n k (was division) (was chosen) ⌝ }
 {
     let r = length_refusal(division.len(), n);
     if r != 0 {
@@ -208,7 +210,7 @@ pub fn free_plan_refusal(
     division: &[u8],
     chosen: &[u8],
 ) -> u8
-    ensures { λ r. ⌜ r ≡ freePlanRefusal n m k (now (scores .entry)) (now (rows .entry)) (now (division .entry)) (now (chosen .entry)) ⌝ }
+    ensures { λ r. ⌜ Tried freePlanRefusal (planLent n m k scores rows division chosen) r ⌝ }
 {
     let own = buffers_refusal(n, k, division, chosen);
     check::survey_refusal(n, m, k, own, scores, rows)
@@ -216,7 +218,7 @@ pub fn free_plan_refusal(
 
 // What a balanced plan is tried for besides: 5, then 6 for its two buffers.
 fn balanced_buffers_refusal(n: usize, k: usize, division: &[u8], chosen: &[u8]) -> u8
-    ensures { λ r. ⌜ r ≡ shareRefusal n k orElse buffersRefusal n k (now (division .entry)) (now (chosen .entry)) ⌝ }
+    ensures { λ r. ⌜ r ≡ shareRefusal n k orElse buffersRefusal n k (was division) (was chosen) ⌝ }
 {
     let r = share_refusal(n, k);
     if r != 0 {
@@ -235,7 +237,7 @@ pub fn balanced_plan_refusal(
     division: &[u8],
     chosen: &[u8],
 ) -> u8
-    ensures { λ r. ⌜ r ≡ balancedPlanRefusal n m k (now (scores .entry)) (now (rows .entry)) (now (division .entry)) (now (chosen .entry)) ⌝ }
+    ensures { λ r. ⌜ Tried balancedPlanRefusal (planLent n m k scores rows division chosen) r ⌝ }
 {
     let own = balanced_buffers_refusal(n, k, division, chosen);
     check::survey_refusal(n, m, k, own, scores, rows)
@@ -243,7 +245,7 @@ pub fn balanced_plan_refusal(
 
 // A floor.
 pub fn floor_refusal(n: usize, m: usize, k: usize, scores: &[u16], rows: &[u8]) -> u8
-    ensures { λ r. ⌜ r ≡ floorRefusal n m k (now (scores .entry)) (now (rows .entry)) ⌝ }
+    ensures { λ r. ⌜ Tried floorRefusal (surveyLent n m k scores rows) r ⌝ }
 {
     let own = share_refusal(n, k);
     check::survey_refusal(n, m, k, own, scores, rows)

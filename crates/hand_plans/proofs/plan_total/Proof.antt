@@ -1,39 +1,44 @@
 -- `hand_plans::plan_total` meets its contract. Assumes nothing.
 use borrow.Author.Needs.{needs}
+use Rattle.survey.specs.Town.{townOf}
 use Rattle.hand_plans.proofs.Tallies.{total-none, total-more, total-all}
 use Rattle.division.specs.Shares.{divisionTotal}
 use Rattle.survey.specs.Rows.{value}
 use Rattle.counting.proofs.Tables.{row-within}
-use lib.ListN.{length, take}
+use lib.ListN.{take}
 use native.Mathlib.Omega.{arith}
 use Prim.Native.Nat.{_≤_, _-_, _*_}
-use mathlib.Core.Path.{_≡_, refl}
+use mathlib.Core.Path.{_≡_}
 use Rattle.hand_plans.proofs.plan_total.Statement.{statement}
 use Rattle.hand_plans.proofs.plan_total.Tie as tie
 
 abbrev Inv-loop : tie.InvT-loop
-Inv-loop m scores rows division total₀ s₀ s-end total s = (s ≤ s-end) × (s-end ≡ length division) × (total ≡ divisionTotal (value m scores rows) (take s division)) × (total ≤ s * 65535)
+Inv-loop n m scores rows division total₀ s₀ total s =
+    (s ≤ n) × (total ≡ divisionTotal (value (townOf n m scores rows)) (take s division)) × (total ≤ s * 65535)
 
 abbrev μ-loop : tie.MeasureT-loop
-μ-loop m scores rows division total₀ s₀ s-end total s = s-end - s
+μ-loop n m scores rows division total₀ s₀ total s = n - s
 
 loop-holds : tie.Need-loop-holds Inv-loop μ-loop
-loop-holds c = (search needs, refl, total-none _, search needs)
+loop-holds c = (search needs, total-none _, search needs)
 
 street-score-requires : tie.Need-street-score-requires Inv-loop μ-loop
 street-score-requires c κs =
     let s = c .before .before in
     let p = s .before .before .before .before in
-    omega (arith, row-within (length (p .args .division .now)) (p .args .m) (s .loop .s) (omega arith), p .pre .0)
+    omega (arith, row-within (p .args .n) (p .args .m) (s .loop .s) (omega arith), p .pre .0)
 
 loop-again : tie.Need-loop-again Inv-loop μ-loop
 loop-again c =
     let l = c .before .before .before .loop in
     let a = c .before .before .before .before .before .before .before .args in
-    (omega arith, refl, total-more (value (a .m) (a .scores .now) (a .rows .now)) (a .division .now) (l .s) (l .total) _ (omega arith) (l .inv .2) (c .street-score .ensures), omega arith)
+    let p = c .before .before .before .before .before .before .before .pre in
+    (omega arith, total-more _ (a .division .now) (l .s) (l .total) _ (omega (arith, p .1)) (l .inv .1) (c .street-score .ensures), omega arith)
 
 returns : tie.Need-returns Inv-loop μ-loop
-returns c = let l = c .before .loop in total-all _ _ (l .s) (l .total) (omega arith) (l .inv .2)
+returns c =
+    let l = c .before .loop in
+    total-all _ _ (l .s) (l .total) (omega (arith, c .before .before .before .before .before .pre .1)) (l .inv .1)
 
 pub plan-total-spec : {M : Type 1} → statement M
 plan-total-spec =

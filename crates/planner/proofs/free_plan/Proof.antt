@@ -1,34 +1,26 @@
 -- `planner::free_plan` meets its contract. Assumes nothing.
 use borrow.Author.Needs.{needs}
-use mathlib.Core.Path.{sym, _∙_}
-use mathlib.Core.Bool.{false≢true}
 use native.Mathlib.Omega.{arith}
-use Rattle.planner.proofs.Laws.{told-refused, kept-refused}
 use Rattle.refusals.proofs.Listed.{free-plan-called, free-plan-fits}
-use Rattle.planner.proofs.Freely.{free-plan-given}
+use Rattle.planner.proofs.FreePromises.{free-plan-refused, free-plan-given}
 use Rattle.planner.proofs.free_plan.Statement.{statement}
 use Rattle.planner.proofs.free_plan.Tie as tie
 
 returns : tie.Need-returns
-returns c =
-    let e = c .before .free-plan-refusal .ensures in
-    let h = c .if1 .taken in
-    (told-refused _ _ _ e h, (kept-refused _ _ _ _ e h, (kept-refused _ _ _ _ e h, λ y. absurd (false≢true y))))
+returns c = free-plan-refused (c .before .free-plan-refusal .ensures) (c .if1 .taken)
 
 plan-requires : tie.Need-plan-requires
 plan-requires c κs =
-    let a = c .before .before .before .before .before .before .before .before .before .before .args in
-    let e = sym (c .before .before .before .free-plan-refusal .ensures) ∙ c .before .before .if1 .left in
-    let call = free-plan-called (a .n) (a .m) (a .k) (a .scores .now) (a .rows .now) (a .division .now) (a .chosen .now) e in
-    let size = free-plan-fits (a .n) (a .m) (a .k) (a .scores .now) (a .rows .now) (a .division .now) (a .chosen .now) e in
+    let tried = c .before .before .before .free-plan-refusal .ensures in
+    let call = free-plan-called tried (c .before .before .if1 .left) in
+    let size = free-plan-fits tried (c .before .before .if1 .left) in
     ((call .survey, omega (arith, size .1, call .few)), size .0)
 
 returns-2 : tie.Need-returns-2
 returns-2 c =
-    let a = c .before .before .before .before .before .before .before .before .before .before .before .before .before .before .before .args in
-    let t = c .before .before .before .before .plan .ensures in
-    free-plan-given (a .n) (a .m) (a .k) (a .scores .now) (a .rows .now) (a .division .now) (a .chosen .now) _
-    (c .before .before .before .before .before .before .before .before .free-plan-refusal .ensures) (c .before .before .before .before .before .before .before .if1 .left) _ _ _ (t .0) (t .1 .0) (t .1 .1)
+    let i = c .before .before .before .before in
+    let tried = i .before .before .before .before .free-plan-refusal .ensures in
+    free-plan-given tried (i .before .before .before .if1 .left) (i .plan .ensures .0) (i .plan .ensures .1 .0) (i .plan .ensures .1 .1)
 
 pub free-plan-spec : {M : Type 1} → statement M
 free-plan-spec =

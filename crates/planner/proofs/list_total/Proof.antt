@@ -1,23 +1,26 @@
 -- `planner::list_total` meets its contract. Assumes nothing.
 use borrow.Author.Needs.{needs}
-use mathlib.Core.Path.{sym, _∙_}
-use Rattle.planner.proofs.Laws.{answers}
-use Rattle.refusals.proofs.Listed.{list-total-listed, list-low}
+use Rattle.refusals.proofs.Listed.{listed-low, list-total-listed}
+use Rattle.planner.proofs.Answers.{told-refused, told-total}
 use Rattle.planner.proofs.list_total.Statement.{statement}
 use Rattle.planner.proofs.list_total.Tie as tie
 
 returns : tie.Need-returns
-returns c = search answers
+returns c = record { answer = told-refused (c .before .list-total-refusal .ensures) (c .if1 .taken) }
 
 list-total-requires : tie.Need-list-total-requires
 list-total-requires c κs =
-    let a = c .before .before .before .before .before .args in
-    let l = list-total-listed (a .n) (a .m) (a .scores .now) (a .rows .now) (a .sites .now) (sym (c .before .list-total-refusal .ensures) ∙ c .if1 .left) in
-    (l .called .survey, l .called .few, list-low (a .m) (a .sites .now) (l .list))
+    let l = list-total-listed (c .before .list-total-refusal .ensures) (c .if1 .left) in
+    (l .called .survey, l .called .few, listed-low l)
 
 returns-2 : tie.Need-returns-2
-returns-2 c = search answers
+returns-2 c = record { answer = told-total (c .before .before .list-total-refusal .ensures) (c .before .if1 .left) (c .list-total .ensures) }
 
 pub list-total-spec : {M : Type 1} → statement M
 list-total-spec =
-    tie.close (tie.spec (λ c κs. search needs) returns list-total-requires returns-2)
+    tie.close
+    (tie.spec
+    (λ c κs. search needs)
+    returns
+    list-total-requires
+    returns-2)

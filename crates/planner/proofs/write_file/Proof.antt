@@ -1,30 +1,42 @@
 -- `planner::write_file` meets its contract. Assumes nothing.
 use borrow.Author.Needs.{needs}
-use mathlib.Core.Path.{sym, _∙_}
-use mathlib.Core.Bool.{false≢true}
+use mathlib.Core.Path.{_≡_}
 use native.Mathlib.Omega.{arith}
-use Rattle.planner.proofs.Laws.{told-refused, kept-refused}
-use Rattle.planner.proofs.Files.{write-accepted, write-chosen, write-kind, write-room, write-short, write-given}
+use lib.ListN.{length}
+use Rattle.survey.specs.Town.{townOf}
+use Rattle.survey_file.specs.Encode.{encode}
+use Rattle.planner.proofs.FilePromises.{write-refused, write-accepted, write-ready, write-room, write-short, write-given}
 use Rattle.planner.proofs.write_file.Statement.{statement}
 use Rattle.planner.proofs.write_file.Tie as tie
 
 returns : tie.Need-returns
-returns c =
-    let e = c .before .write-refusal .ensures in
-    let h = c .if1 .taken in
-    (told-refused _ _ _ e h, (kept-refused _ _ _ _ e h, λ y. absurd (false≢true y)))
+returns c = write-refused (c .before .write-refusal .ensures) (c .if1 .taken)
 
 file-length-requires : tie.Need-file-length-requires
-file-length-requires c κs = let a = c .before .before .before .before .before .before .args in let ok = write-accepted (a .n) (a .m) (a .k) (a .kind) (a .scores .now) (a .rows .now) (a .file .now) (sym (c .before .write-refusal .ensures) ∙ c .if1 .left) in (ok .few-streets, ok .few-sites, ok .rows-fit)
+file-length-requires c κs =
+    let ok = write-accepted (c .before .write-refusal .ensures) (c .if1 .left) in
+    (ok .few-streets, ok .few-sites, ok .rows-fit)
 
 write-requires : tie.Need-write-requires
-write-requires c κs = let a = c .before .before .before .before .before .before .before .before .args in let e = (sym (c .before .before .before .write-refusal .ensures) ∙ c .before .before .if1 .left) in (write-accepted (a .n) (a .m) (a .k) (a .kind) (a .scores .now) (a .rows .now) (a .file .now) e, ((write-chosen (a .n) (a .m) (a .k) (a .kind) (a .scores .now) (a .rows .now) (a .file .now) e, write-kind (a .n) (a .m) (a .k) (a .kind) (a .scores .now) (a .rows .now) (a .file .now) e), write-room (a .n) (a .m) (a .k) (a .kind) (a .scores .now) (a .rows .now) (a .file .now) e))
+write-requires c κs =
+    let tried = c .before .before .before .write-refusal .ensures in
+    let z = c .before .before .if1 .left in
+    (write-accepted tried z, (write-ready tried z, write-room tried z))
+
+-- the length, once it is taken
+sized : (i : tie.After-file-length) → let a = i .before .before .before .before .before .before .before .args in
+    i .file-length .result ≡ length (encode (townOf (a .n) (a .m) (a .scores .now) (a .rows .now)) (a .k) (a .kind))
+sized i = let a = i .before .before .before .before .before .before .before .args in i .file-length .ensures (a .k) (a .kind) (a .scores .now)
 
 cast-t16 : tie.Need-cast-t16
-cast-t16 c = let a = c .before .before .before .before .before .before .before .before .before .before .before .args in omega (arith, c .before .before .before .before .file-length .ensures (a .k) (a .kind) (a .scores .now), write-short (a .n) (a .m) (a .k) (a .kind) (a .scores .now) (a .rows .now) (a .file .now) (sym (c .before .before .before .before .before .before .write-refusal .ensures) ∙ c .before .before .before .before .before .if1 .left))
+cast-t16 c =
+    let i = c .before .before .before .before in
+    omega (arith, sized i, write-short (i .before .before .write-refusal .ensures) (i .before .if1 .left))
 
 returns-2 : tie.Need-returns-2
-returns-2 c = let a = c .before .before .before .before .before .before .before .before .before .before .before .args in write-given (a .n) (a .m) (a .k) (a .kind) (a .scores .now) (a .rows .now) (a .file .now) _ (c .before .before .before .before .before .before .write-refusal .ensures) (c .before .before .before .before .before .if1 .left) _ _ (c .before .before .before .before .file-length .ensures (a .k) (a .kind) (a .scores .now)) (c .before .before .write .ensures)
+returns-2 c =
+    let i = c .before .before .before .before in
+    write-given (i .before .before .write-refusal .ensures) (i .before .if1 .left) (sized i) (c .before .before .write .ensures)
 
 pub write-file-spec : {M : Type 1} → statement M
 write-file-spec =

@@ -1,6 +1,6 @@
 -- `planner_c::packed_refusal` meets its contract. Assumes nothing.
 use borrow.Author.Needs.{needs}
-use Rattle.planner_c.proofs.Laws.{packed-number}
+use Rattle.planner_c.proofs.PackedNumbers.{packed-number}
 use Rattle.planner_c.proofs.packed_refusal.Statement.{statement}
 use Rattle.planner_c.proofs.packed_refusal.Tie as tie
 

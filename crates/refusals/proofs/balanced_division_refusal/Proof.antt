@@ -4,7 +4,7 @@ use Rattle.refusals.proofs.balanced_division_refusal.Statement.{stateme
 use Rattle.refusals.proofs.balanced_division_refusal.Tie as tie
 
 returns : tie.Need-returns
-returns c = rw (c .before .balance-refusal .ensures) at (c .listed-refusal .ensures)
+returns c = record { first = rw (c .before .balance-refusal .ensures) at (c .listed-refusal .ensures) }
 
 pub balanced-division-refusal-spec : {M : Type 1} → statement M
 balanced-division-refusal-spec =

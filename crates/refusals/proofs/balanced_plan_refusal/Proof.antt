@@ -4,7 +4,7 @@ use Rattle.refusals.proofs.balanced_plan_refusal.Statement.{statement}
 use Rattle.refusals.proofs.balanced_plan_refusal.Tie as tie
 
 returns : tie.Need-returns
-returns c = rw (c .before .balanced-buffers-refusal .ensures) at (c .survey-refusal .ensures)
+returns c = record { first = rw (c .before .balanced-buffers-refusal .ensures) at (c .survey-refusal .ensures) }
 
 pub balanced-plan-refusal-spec : {M : Type 1} → statement M
 balanced-plan-refusal-spec =

@@ -4,7 +4,7 @@ use Rattle.refusals.proofs.floor_refusal.Statement.{statement}
 use Rattle.refusals.proofs.floor_refusal.Tie as tie
 
 returns : tie.Need-returns
-returns c = rw (c .before .share-refusal .ensures) at (c .survey-refusal .ensures)
+returns c = record { first = rw (c .before .share-refusal .ensures) at (c .survey-refusal .ensures) }
 
 pub floor-refusal-spec : {M : Type 1} → statement M
 floor-refusal-spec = tie.close (tie.spec (λ c κs. search needs) (λ c κs. search needs) returns)

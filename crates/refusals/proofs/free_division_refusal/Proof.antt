@@ -4,7 +4,7 @@ use Rattle.refusals.proofs.free_division_refusal.Statement.{statement}
 use Rattle.refusals.proofs.free_division_refusal.Tie as tie
 
 returns : tie.Need-returns
-returns c = rw (c .before .length-refusal .ensures) at (c .listed-refusal .ensures)
+returns c = record { first = rw (c .before .length-refusal .ensures) at (c .listed-refusal .ensures) }
 
 pub free-division-refusal-spec : {M : Type 1} → statement M
 free-division-refusal-spec =

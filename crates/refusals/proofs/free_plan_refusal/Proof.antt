@@ -4,7 +4,7 @@ use Rattle.refusals.proofs.free_plan_refusal.Statement.{statement}
 use Rattle.refusals.proofs.free_plan_refusal.Tie as tie
 
 returns : tie.Need-returns
-returns c = rw (c .before .buffers-refusal .ensures) at (c .survey-refusal .ensures)
+returns c = record { first = rw (c .before .buffers-refusal .ensures) at (c .survey-refusal .ensures) }
 
 pub free-plan-refusal-spec : {M : Type 1} → statement M
 free-plan-refusal-spec =

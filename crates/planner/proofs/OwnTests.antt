@@ -1,0 +1,111 @@
+-- Our plans pass their own tests: the division over k different sites, free or in equal shares, with its total is an accepted hand plan.
+-- Assumes nothing.
+use mathlib.Core.Path.{_≡_, refl, sym, ap, _∙_}
+use mathlib.Core.Bool.{true}
+use mathlib.Core.Logic.{⊎-elim}
+use mathlib.Core.List.{List}
+use Prim.Native.Nat.{ℕ, zero, suc, _*_, _/_, _≤_, _<_}
+use native.Mathlib.Nat.{eq-zero-or-pos, mul-zero}
+use native.Mathlib.Omega.{arith}
+use lib.Dec.{ltb, eqb}
+use lib.ListN.{length}
+use borrow.Author.Tests.{ltb-true}
+use Rattle.counting.specs.Words.{one}
+use Rattle.counting.specs.Lists.{at, has, count}
+use Rattle.counting.specs.Sites.{Choice}
+use Rattle.counting.proofs.Sums.{listOf-length, listOf-at, sumOf-same, sumOf-le, has-index}
+use Rattle.counting.proofs.Membership.{one-more}
+use Rattle.counting.proofs.Listed.{count-has}
+use Rattle.survey.specs.Town.{Town}
+use Rattle.survey.specs.Rows.{listOfStreet, value}
+use Rattle.survey.specs.Refusals.{shareRefusal, surveyRefusal}
+use Rattle.survey.proofs.Sound.{accepted}
+use Rattle.division.specs.Shares.{share, shareAmong, InShares}
+use Rattle.division.proofs.Counts.{share-fits, has-share}
+use Rattle.division.proofs.Shared.{shares-length, shares-are, listed-count, even-count}
+use Rattle.division.proofs.Best.{divide-length}
+use Rattle.free_plan.specs.Greedy.{goesTo}
+use Rattle.free_plan.proofs.Sites.{goes-chosen}
+use Rattle.free_results.proofs.Scored.{served-total}
+use Rattle.refusals.specs.Refusals.{sitesWith, freeHandRefusal, balancedHandRefusal}
+use Rattle.refusals.proofs.Listed.{even}
+use Rattle.refusals.proofs.Passed.{free-passed, balanced-passed}
+use Rattle.refusals.specs.Inputs.{handOf}
+use Rattle.plans.specs.Plans.{listTotal, freeDivision, planTotal, sharesFor, balancedDivision}
+
+module _ (t : Town) (k own : ℕ) (ok : surveyRefusal t k own ≡ 0) (sites : List ℕ) (plan : Choice (t .m) k sites) where
+  -- ---- the free division
+  -- where a street goes
+  abbrev goes : ℕ → ℕ
+  goes s = goesTo (λ a. has a sites) (listOfStreet t s)
+
+  -- a site with a street is one of the list
+  used : (i : ℕ) → ltb 0 (count (freeDivision t sites) (suc i)) ≡ true → has (suc i) sites ≡ true
+  used i h =
+      let list : List ℕ = freeDivision t sites in
+      let (s, l, e) = has-index (suc i) list (count-has list (suc i) (ltb-true 0 (count list (suc i)) h)) in
+      let here : goes s ≡ suc i = sym (listOf-at (t .n) goes s (omega (arith, listOf-length (t .n) goes))) ∙ e in
+      rw here at (goes-chosen (listOfStreet t s) sites (rw here (omega arith)))
+
+  -- so at most k are used
+  few : sitesWith (ltb 0) (t .m) (freeDivision t sites) ≤ k
+  few =
+      omega (
+        arith,
+        sumOf-le (t .m) _ (λ i. one (has (suc i) sites)) (λ i l. one-more _ (has (suc i) sites) (used i)),
+        listed-count sites (t .m) (plan .sites) (plan .apart),
+        plan .size,
+      )
+
+  -- no site is above m
+  low : (s : ℕ) → s < t .n → at (freeDivision t sites) s ≤ t .m
+  low s l =
+      rw (listOf-at (t .n) goes s l)
+      (⊎-elim (λ z. omega (arith, z)) (λ p. plan .sites (goes s) (goes-chosen (listOfStreet t s) sites p) .1) (eq-zero-or-pos (goes s)))
+
+  -- the free division with the total of the sites passes
+  pub free-list-passes : freeHandRefusal (handOf t k (freeDivision t sites) (listTotal t sites)) ≡ 0
+  free-list-passes =
+      free-passed (handOf t k (freeDivision t sites) (listTotal t sites)) own ok (listOf-length (t .n) goes)
+      (sym (served-total t sites (accepted t k own ok .sound-scores))) low few
+
+  -- ---- the balanced division
+  module _ (divides : shareRefusal (t .n) k ≡ 0) (in-shares : InShares (balancedDivision t sites) (sharesFor t sites)) where
+    -- the division
+    abbrev D : List ℕ
+    D = balancedDivision t sites
+
+    -- it is one of all streets
+    length-D : length D ≡ t .n
+    length-D = divide-length (value t) (t .n) (sharesFor t sites)
+
+    -- a site with a share is one of 1 to m
+    served : (a : ℕ) → 0 < share (sharesFor t sites) a → (0 < a) × (a ≤ t .m)
+    unfolding share
+    served zero h = absurd (omega arith)
+    served (suc a) h = (omega arith, omega (arith, share-fits (sharesFor t sites) (suc a) h, shares-length (λ i. t .n / length sites) sites (t .m)))
+
+    -- the share is above 0, since all n streets are given away
+    some : 0 < t .n / k
+    some =
+        ⊎-elim (λ z. absurd (omega (arith, even (t .n) k divides, ap (λ (x : ℕ). k * x) z, mul-zero k, accepted t k own ok .some-street)))
+        (λ p. p) (eq-zero-or-pos (t .n / k))
+
+    -- each site has the share that it has among the listed ones
+    has-streets : (i : ℕ) → count D (suc i) ≡ shareAmong (λ j. t .n / k) sites (suc i)
+    has-streets i =
+        in-shares (suc i) ∙ shares-are (λ j. t .n / length sites) sites (t .m) (plan .sites) (suc i)
+        ∙ ap (λ (x : ℕ). shareAmong (λ j. t .n / x) sites (suc i)) (plan .size)
+
+    -- so k sites have it
+    shared : sitesWith (eqb (t .n / k)) (t .m) D ≡ k
+    shared =
+        sumOf-same (t .m) _ _ (λ i l. ap (λ (x : ℕ). one (eqb (t .n / k) x)) (has-streets i))
+        ∙ even-count (t .n / k) sites (t .m) some (plan .sites) (plan .apart)
+        ∙ plan .size
+
+    -- the balanced division with its own total passes
+    pub balanced-list-passes : balancedHandRefusal (handOf t k (balancedDivision t sites) (planTotal t (balancedDivision t sites))) ≡ 0
+    balanced-list-passes =
+        balanced-passed (handOf t k D (planTotal t D)) own ok length-D refl divides
+        (λ s l. served (at D s) (has-share D (sharesFor t sites) in-shares s (omega (arith, length-D)))) shared

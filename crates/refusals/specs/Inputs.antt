@@ -1,0 +1,104 @@
+-- What each call is given, in one record: a further input of a call is a further field. A buffer that is lent stands here as it is when the
+-- call begins. Each record is written in one place, `..Of`; `..Lent` is the input of a call by its parameters, for its contract.
+-- Assumes nothing.
+use Prim.Native.Nat.{ℕ}
+use mathlib.Core.List.{List}
+use Rattle.survey.specs.Town.{Town, Lent, was, town}
+
+-- a survey with k sites to be chosen: check and floor
+pub record SurveyInput : Type 0 where
+  pub town : Town
+  pub k : ℕ
+
+abbrev pub surveyOf : Town → ℕ → SurveyInput
+surveyOf t k = record { town = t; k = k }
+
+abbrev pub surveyLent : ℕ → ℕ → ℕ → Lent → Lent → SurveyInput
+surveyLent n m k scores rows = surveyOf (town n m scores rows) k
+
+-- one row of m bytes and one site, with the scores
+pub record RowInput : Type 0 where
+  pub m : ℕ
+  pub scores : List ℕ
+  pub row : List ℕ
+  pub site : ℕ
+
+abbrev pub rowInputOf : ℕ → List ℕ → List ℕ → ℕ → RowInput
+rowInputOf m scores row site = record { m = m; scores = scores; row = row; site = site }
+
+abbrev pub rowLent : ℕ → Lent → Lent → ℕ → RowInput
+rowLent m scores row site = rowInputOf m (was scores) (was row) site
+
+-- a given list of sites: its total
+pub record ListInput : Type 0 where
+  pub town : Town
+  pub sites : List ℕ
+
+abbrev pub listInputOf : Town → List ℕ → ListInput
+listInputOf t sites = record { town = t; sites = sites }
+
+abbrev pub listLent : ℕ → ℕ → Lent → Lent → Lent → ListInput
+listLent n m scores rows sites = listInputOf (town n m scores rows) (was sites)
+
+-- the same with a buffer for the division over it, free or balanced
+pub record DivisionInput : Type 0 where
+  pub town : Town
+  pub sites : List ℕ
+  pub division : List ℕ
+
+abbrev pub divisionOf : Town → List ℕ → List ℕ → DivisionInput
+divisionOf t sites division = record { town = t; sites = sites; division = division }
+
+abbrev pub divisionLent : ℕ → ℕ → Lent → Lent → Lent → Lent → DivisionInput
+divisionLent n m scores rows sites division = divisionOf (town n m scores rows) (was sites) (was division)
+
+-- a plan of k sites, free or balanced, with a buffer for the division and one for the sites
+pub record PlanInput : Type 0 where
+  pub town : Town
+  pub k : ℕ
+  pub division : List ℕ
+  pub chosen : List ℕ
+
+abbrev pub planOf : Town → ℕ → List ℕ → List ℕ → PlanInput
+planOf t k division chosen = record { town = t; k = k; division = division; chosen = chosen }
+
+abbrev pub planLent : ℕ → ℕ → ℕ → Lent → Lent → Lent → Lent → PlanInput
+planLent n m k scores rows division chosen = planOf (town n m scores rows) k (was division) (was chosen)
+
+-- a hand-made plan of k sites, free or balanced: a site for each street, and the total that is claimed
+pub record HandInput : Type 0 where
+  pub town : Town
+  pub k : ℕ
+  pub division : List ℕ
+  pub claimed : ℕ
+
+abbrev pub handOf : Town → ℕ → List ℕ → ℕ → HandInput
+handOf t k division claimed = record { town = t; k = k; division = division; claimed = claimed }
+
+abbrev pub handLent : ℕ → ℕ → ℕ → Lent → Lent → Lent → ℕ → HandInput
+handLent n m k scores rows division claimed = handOf (town n m scores rows) k (was division) claimed
+
+-- a survey with its kind, and a buffer for its file
+pub record WriteInput : Type 0 where
+  pub town : Town
+  pub k : ℕ
+  pub kind : ℕ
+  pub file : List ℕ
+
+abbrev pub writeOf : Town → ℕ → ℕ → List ℕ → WriteInput
+writeOf t k kind file = record { town = t; k = k; kind = kind; file = file }
+
+abbrev pub writeLent : ℕ → ℕ → ℕ → ℕ → Lent → Lent → Lent → WriteInput
+writeLent n m k kind scores rows file = writeOf (town n m scores rows) k kind (was file)
+
+-- a file, and buffers for its rows and scores
+pub record ReadInput : Type 0 where
+  pub file : List ℕ
+  pub rows : List ℕ
+  pub scores : List ℕ
+
+abbrev pub readOf : List ℕ → List ℕ → List ℕ → ReadInput
+readOf file rows scores = record { file = file; rows = rows; scores = scores }
+
+abbrev pub readLent : Lent → Lent → Lent → ReadInput
+readLent file rows scores = readOf (was file) (was rows) (was scores)
