@@ -1,4 +1,4 @@
--- The first 27,740 bytes of an input decide what is printed, so that the program reads no more of them.
+-- The first 27,740 bytes of an input, one more than the longest file has, decide what is printed, so that the program reads no more of them.
 -- Assumes nothing.
 use mathlib.Core.Path.{_≡_, refl, sym, ap, _∙_}
 use mathlib.Core.Logic.{by-cases}
@@ -11,18 +11,18 @@ use lib.Dec.{ltb, eqb, lit<}
 use lib.ListN.{length, take, drop, length-drop}
 use lib.Seq.{length-take-le, take-all, take-take, getD-take}
 use borrow.Author.Tests.{lt-ltb, ltb-false}
+use Rattle.counting.specs.Bounds.{mostStreets, mostSites}
 use Rattle.counting.specs.Words.{_when_, _unless_, _orElse_, firstOf}
 use Rattle.counting.specs.Lists.{at}
 use Rattle.counting.proofs.Refusals.{or-zero, when-zero, within}
-use Rattle.survey.specs.Refusals.{kindRefusal}
-use Rattle.survey.proofs.Sound.{accepted}
-use Rattle.survey_file.specs.Encode.{townMark, scoresMark, streetMark, endMark}
-use Rattle.survey_file.specs.Decode.{wordAt, shortRefusal, markRefusal, townFields, scoresIn, scoresFields, listIn, byteField, streetFields, endFields, past, streetRecord, streetsAndEnd, streetsIn, sitesIn, chosenIn, kindIn, scoresPart, fileRefusal, rowsIn}
+use Rattle.survey_file.specs.Encode.{townMark, scoresMark, streetMark, endMark, mostFile}
+use Rattle.survey_file.specs.Decode.{wordAt, shortRefusal, markRefusal, townFields, scoresIn, scoresFields, listIn, byteField, streetFields}
+use Rattle.survey_file.specs.Decode.{endFields, past, streetRecord, streetsAndEnd, streetsIn, sitesIn, chosenIn, kindIn, townIn, fileRefusal}
 use Rattle.survey_file.proofs.Joined.{joined-same}
 use Rattle.survey_file.proofs.Bytes.{Bytes}
 use Rattle.survey_file.proofs.Tries.{short-right}
 use Rattle.survey_file.proofs.Accepting.{town-says, street-says}
-use Rattle.survey_file.proofs.WrittenBack.{encode-decode, decode-accepted}
+use Rattle.survey_file.proofs.WrittenBack.{encode-decode, town-accepted}
 use Rattle.survey_file.proofs.Lengths.{encode-most}
 use Rattle.printing.specs.Texts.{unlessRefused, printed}
 
@@ -45,6 +45,16 @@ drop-take (suc a) zero list = rw (zero-sub (suc a))
 drop-take (suc a) (suc k) [] = sym (take-all (suc k - suc a) [] (omega arith))
 drop-take (suc a) (suc k) (x ∷ list) = rw (suc-sub-suc k a) (drop-take a k list)
 
+-- the tries of the records TN, SC and EN
+abbrev townTries : List ℕ → ℕ
+townTries rest = markRefusal townMark rest orElse townFields rest
+
+abbrev scoresTries : ℕ → List ℕ → ℕ
+scoresTries m rest = markRefusal scoresMark rest orElse scoresFields m rest
+
+abbrev endTries : List ℕ → ℕ
+endTries rest = markRefusal endMark rest orElse endFields rest
+
 -- ---- records of which the first k bytes are looked at
 module _ (k : ℕ) (rest : List ℕ) (long : k ≤ length rest) where
   same-at : (i : ℕ) → i < k → at (take k rest) i ≡ at rest i
@@ -65,8 +75,9 @@ module _ (k : ℕ) (rest : List ℕ) (long : k ≤ length rest) where
 
   same-scores : (m : ℕ) → 2 + 2 * m ≤ k → scoresFields m (take k rest) ≡ scoresFields m rest
   same-scores m l =
+      let score : List ℕ → ℕ → List ℕ = λ bytes i. wordAt bytes (2 + 2 * i) ∷ [] in
       let scores : scoresIn m (take k rest) ≡ scoresIn m rest =
-      joined-same m (λ i. wordAt (take k rest) (2 + 2 * i) ∷ []) (λ i. wordAt rest (2 + 2 * i) ∷ []) (λ i h. ap (λ (x : ℕ). x ∷ []) (same-word (2 + 2 * i) (omega arith))) in
+      joined-same m (score (take k rest)) (score rest) (λ i h. ap (λ (x : ℕ). x ∷ []) (same-word (2 + 2 * i) (omega arith))) in
       rw (same-short (2 + 2 * m) l, scores)
 
   same-list : 5 + at rest 4 ≤ k → take (at rest 4) (drop 5 (take k rest)) ≡ listIn rest
@@ -84,14 +95,18 @@ module _ (k : ℕ) (rest : List ℕ) (long : k ≤ length rest) where
       rw (same-short (5 + x) (omega arith)) (ap (λ (y : ℕ). shortRefusal rest (5 + x) orElse y) (ap bytes (same-list (omega arith))))))))
 
 -- ---- the street records
--- what is left of the first `size` bytes once i records are read: no record has more than 69 bytes
+-- the bytes of the longest street record
+abbrev longest : ℕ
+longest = 5 + mostSites
+
+-- what is left of the first `size` bytes once i records are read
 record Left (streets : List ℕ) (size i : ℕ) : Type 0 where
   left : ℕ
   cut : past (take size streets) i ≡ take left (past streets i)
   there : left ≤ length (past streets i)
-  enough : size ≤ left + i * 69
+  enough : size ≤ left + i * longest
 
-module _ (m n size : ℕ) (streets : List ℕ) (few : m ≤ 64) (room : n * 69 + 3 ≤ size) (long : size ≤ length streets) where
+module _ (m n size : ℕ) (streets : List ℕ) (few : m ≤ mostSites) (room : n * longest + 3 ≤ size) (long : size ≤ length streets) where
   left-first : Left streets size 0
   unfolding past
   left-first = record { left = size; cut = refl; there = long; enough = omega arith }
@@ -101,8 +116,8 @@ module _ (m n size : ℕ) (streets : List ℕ) (few : m ≤ 64) (room : n * 69 +
   left-next i l short w =
       let rest : List ℕ = past streets i in
       let x : ℕ = 5 + at rest 4 in
-      let much : 72 ≤ w .left = omega (arith, w .enough) in
-      let same : at (past (take size streets) i) 4 ≡ at rest 4 = ap (λ (y : List ℕ). at y 4) (w .cut) ∙ same-at (w .left) rest (w .there) 4 (omega arith) in
+      let much : longest + 3 ≤ w .left = omega (arith, w .enough) in
+      let same : at (past (take size streets) i) 4 ≡ at rest 4 = rw (w .cut) (same-at (w .left) rest (w .there) 4 (omega arith)) in
       record {
         left = w .left - x;
         cut = rw (same, w .cut) (drop-take x (w .left) rest);
@@ -120,36 +135,39 @@ module _ (m n size : ℕ) (streets : List ℕ) (few : m ≤ 64) (room : n * 69 +
   same-record : (i : ℕ) → i < n → firstOf i (streetRecord m streets) ≡ 0 → streetRecord m (take size streets) i ≡ streetRecord m streets i
   same-record i l e =
       let w = left-all i (omega arith) e in
-      let much : 72 ≤ w .left = omega (arith, w .enough) in
-      rw (w .cut, same-mark (w .left) (past streets i) (w .there) streetMark (omega arith), same-street (w .left) (past streets i) (w .there) m (suc i) (omega arith))
+      let much : longest + 3 ≤ w .left = omega (arith, w .enough) in
+      let rest : List ℕ = past streets i in
+      rw (w .cut, same-mark (w .left) rest (w .there) streetMark (omega arith), same-street (w .left) rest (w .there) m (suc i) (omega arith))
 
-  same-end : firstOf n (streetRecord m streets) ≡ 0 →
-      markRefusal endMark (past (take size streets) n) orElse endFields (past (take size streets) n) ≡ markRefusal endMark (past streets n) orElse endFields (past streets n)
+  same-end : firstOf n (streetRecord m streets) ≡ 0 → endTries (past (take size streets) n) ≡ endTries (past streets n)
   same-end e =
       let w = left-all n (omega arith) e in
       let much : 3 ≤ w .left = omega (arith, w .enough) in
       let rest : List ℕ = past streets n in
+      let size : length (take (w .left) rest) ≡ w .left = length-take-le (w .left) rest (w .there) in
       let more : ltb 2 (length (take (w .left) rest)) ≡ ltb 2 (length rest) =
-      lt-ltb 2 (length (take (w .left) rest)) (omega (arith, length-take-le (w .left) rest (w .there))) ∙ sym (lt-ltb 2 (length rest) (omega (arith, w .there))) in
+      lt-ltb 2 (length (take (w .left) rest)) (omega arith) ∙ sym (lt-ltb 2 (length rest) (omega (arith, w .there))) in
       rw (w .cut, same-mark (w .left) rest (w .there) endMark (omega arith), more)
 
   same-streets : streetsAndEnd n m (take size streets) ≡ streetsAndEnd n m streets
   same-streets =
-      ap (λ (x : ℕ). x orElse markRefusal endMark (past (take size streets) n) orElse endFields (past (take size streets) n))
+      ap (λ (x : ℕ). x orElse endTries (past (take size streets) n))
       (first-until n (streetRecord m (take size streets)) (streetRecord m streets) same-record)
       ∙ or-same (firstOf n (streetRecord m streets)) _ _ same-end
 
 -- ---- the file
-module _ (most : ℕ) (file : List ℕ) (much : 27740 ≤ most) (long : most ≤ length file) where
-  same-town-record : markRefusal townMark (take most file) orElse townFields (take most file) ≡ markRefusal townMark file orElse townFields file
+module _ (most : ℕ) (file : List ℕ) (much : mostFile < most) (long : most ≤ length file) where
+  same-town-record : townTries (take most file) ≡ townTries file
   same-town-record = rw (same-mark most file long townMark (omega arith), same-town most file long (omega arith))
 
-  same-table : (m : ℕ) → m ≤ 64 → markRefusal scoresMark (drop 7 (take most file)) orElse scoresFields m (drop 7 (take most file)) ≡ markRefusal scoresMark (drop 7 file) orElse scoresFields m (drop 7 file)
+  same-table : (m : ℕ) → m ≤ mostSites → scoresTries m (drop 7 (take most file)) ≡ scoresTries m (drop 7 file)
   same-table m few =
-      let there : most - 7 ≤ length (drop 7 file) = omega (arith, length-drop 7 file) in
-      rw (drop-take 7 most file, same-mark (most - 7) (drop 7 file) there scoresMark (omega arith), same-scores (most - 7) (drop 7 file) there m (omega arith))
+      let k : ℕ = most - 7 in
+      let there : k ≤ length (drop 7 file) = omega (arith, length-drop 7 file) in
+      rw (drop-take 7 most file, same-mark k (drop 7 file) there scoresMark (omega arith), same-scores k (drop 7 file) there m (omega arith))
 
-  same-rest : (n m : ℕ) → n ≤ 400 → m ≤ 64 → streetsAndEnd n m (drop (9 + 2 * m) (take most file)) ≡ streetsAndEnd n m (drop (9 + 2 * m) file)
+  same-rest : (n m : ℕ) → n ≤ mostStreets → m ≤ mostSites
+      → streetsAndEnd n m (drop (9 + 2 * m) (take most file)) ≡ streetsAndEnd n m (drop (9 + 2 * m) file)
   same-rest n m fewer few =
       rw (drop-take (9 + 2 * m) most file)
       (same-streets m n (most - (9 + 2 * m)) (drop (9 + 2 * m) file) few (omega arith) (omega (arith, length-drop (9 + 2 * m) file)))
@@ -158,28 +176,27 @@ module _ (most : ℕ) (file : List ℕ) (much : 27740 ≤ most) (long : most ≤
   unfolding fileRefusal
   same-file =
       rw (same-town-record, same-at most file long 4 (omega arith), same-word most file long 2 (omega arith))
-      (or-same (markRefusal townMark file orElse townFields file) _ _ (λ e.
+      (or-same (townTries file) _ _ (λ e.
       let town = town-says file e in
-      let few : sitesIn file ≤ 64 = within 2 (sitesIn file) 1 64 (lit< tt) (town .sites) .1 in
-      let fewer : streetsIn file ≤ 400 = within 1 (streetsIn file) 1 400 (lit< tt) (town .streets) .1 in
+      let few : sitesIn file ≤ mostSites = within 2 (sitesIn file) 1 mostSites (lit< tt) (town .sites) .1 in
+      let fewer : streetsIn file ≤ mostStreets = within 1 (streetsIn file) 1 mostStreets (lit< tt) (town .streets) .1 in
       rw (same-table (sitesIn file) few, same-rest (streetsIn file) (sitesIn file) fewer few)))
 
--- a file that is not refused has at most 27739 bytes
-accepted-short : (file : List ℕ) → Bytes file → fileRefusal file ≡ 0 → length file ≤ 27739
+-- a file that is not refused is at most as long as the longest
+accepted-short : (file : List ℕ) → Bytes file → fileRefusal file ≡ 0 → length file ≤ mostFile
 accepted-short file bytes ok =
-    let n : ℕ = streetsIn file in
-    let m : ℕ = sitesIn file in
-    let k : ℕ = chosenIn file in
-    let scores : List ℕ = scoresIn m (scoresPart file) in
-    let most = encode-most n m k (kindIn file) scores (rowsIn file) (accepted n m k (kindRefusal (kindIn file)) scores (rowsIn file) (decode-accepted file ok)) in
-    omega (arith, most, ap length (encode-decode file ok bytes))
+    omega (
+      arith,
+      encode-most (townIn file) (chosenIn file) (kindIn file) (town-accepted file ok),
+      ap length (encode-decode file ok bytes),
+    )
 
 -- where there is a refusal it alone is printed
 refused-same : (x : ℕ) (text other : List ℕ) → (x ≡ 0 → ⊥) → unlessRefused x text ≡ unlessRefused x other
 refused-same zero text other h = absurd (h refl)
 refused-same (suc x) text other h = refl
 
-pub enough : (most : ℕ) (input : List ℕ) → 27740 ≤ most → Bytes input → printed (take most input) ≡ printed input
+pub enough : (most : ℕ) (input : List ℕ) → mostFile < most → Bytes input → printed (take most input) ≡ printed input
 unfolding printed
 enough most input much bytes =
     by-cases (decLt most (length input))

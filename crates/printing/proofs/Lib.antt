@@ -1,4 +1,4 @@
 pub mod Worked
-pub mod Planned
-pub mod Printed
+pub mod PlanTexts
+pub mod FileTexts
 pub mod Enough

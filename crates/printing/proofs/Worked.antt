@@ -7,6 +7,7 @@ use Rattle.counting.specs.Words.{_when_, _unless_, _orElse_, firstOf}
 use Rattle.counting.specs.Lists.{count}
 use Rattle.counting.specs.Greatest.{seek, greatest}
 use Rattle.counting.specs.Buffers.{joined}
+use Rattle.survey.specs.Town.{townOf}
 use Rattle.division.specs.Shares.{share, less, divisionTotal}
 use Rattle.division.specs.Divide.{divide}
 use Rattle.balanced_plan.specs.Rounds.{ordered, rounds}
@@ -34,11 +35,11 @@ text-12 = 114 ∷ 101 ∷ 102 ∷ 117 ∷ 115 ∷ 101 ∷ 100 ∷ 32 ∷ 49 ∷ 
 
 -- P7, balanced, as a file: three sites do not divide four streets
 abbrev p7 : List ℕ
-p7 = encode 4 3 3 1 (2 ∷ 1 ∷ 0 ∷ []) (1 ∷ 2 ∷ 3 ∷ 1 ∷ 3 ∷ 2 ∷ 2 ∷ 1 ∷ 0 ∷ 3 ∷ 2 ∷ 1 ∷ [])
+p7 = encode (townOf 4 3 (2 ∷ 1 ∷ 0 ∷ []) (1 ∷ 2 ∷ 3 ∷ 1 ∷ 3 ∷ 2 ∷ 2 ∷ 1 ∷ 0 ∷ 3 ∷ 2 ∷ 1 ∷ [])) 3 1
 
 -- P8 as a file of a kind, and its listing: total 0, sites 1, street 1, the site and place 0
 abbrev p8 : ℕ → List ℕ
-p8 kind = encode 1 1 1 kind (7 ∷ []) (0 ∷ [])
+p8 kind = encode (townOf 1 1 (7 ∷ []) (0 ∷ [])) 1 kind
 
 abbrev p8-text : ℕ → List ℕ
 p8-text site =
@@ -46,6 +47,8 @@ p8-text site =
     (115 ∷ 116 ∷ 114 ∷ 101 ∷ 101 ∷ 116 ∷ 32 ∷ 49 ∷ 32 ∷ site ∷ 32 ∷ 48 ∷ 10 ∷ [])
 
 -- an unserved street has site 0, and a site that is not ranked place 0
-pub worked : (printed p5 ≡ p5-text) × (printed [] ≡ text-12) × (printed p7 ≡ refusedLine 5) × (printed (p8 0) ≡ p8-text 48) × (printed (p8 1) ≡ p8-text 49)
-unfolding _when_ _unless_ _orElse_ firstOf count seek greatest joined share less divisionTotal divide ordered rounds encode past fileRefusal digits planText printed
+pub worked : (printed p5 ≡ p5-text) × (printed [] ≡ text-12) × (printed p7 ≡ refusedLine 5)
+    × (printed (p8 0) ≡ p8-text 48) × (printed (p8 1) ≡ p8-text 49)
+unfolding _when_ _unless_ _orElse_ firstOf count seek greatest joined share less divisionTotal divide ordered rounds encode past fileRefusal digits planText
+    printed
 worked = (refl, refl, refl, refl, refl)

@@ -3,11 +3,14 @@ use planner::Answer;
 use planner::Read;
 use survey::Survey;
 ghost use mathlib.Core.Path.{_≡_};
-ghost use Prim.Native.Nat.{_*_, _≤_};
+ghost use Prim.Native.Nat.{_≤_};
 ghost use lib.ListN.{length};
-ghost use Rattle.survey.specs.Refusals.{kindRefusal, surveyRefusal};
-ghost use Rattle.file_writer.specs.Written.{Written};
+ghost use Rattle.counting.specs.Buffers.{Written};
+ghost use Rattle.survey.specs.Town.{townOf, was, is, town};
+ghost use Rattle.refusals.specs.Inputs.{planOf};
+ghost use Rattle.listing.specs.Listing.{mostText};
 ghost use Rattle.printing.specs.Texts.{answerText, planText, printed};
+ghost use Rattle.printing.specs.Asked.{SurveyAsked, PlanAsked, ListingAsked};
 
 // A buffer of so many bytes has room for every text: 400 streets have lines of at most 19 bytes each.
 pub const TEXT: usize = 8192;
@@ -23,9 +26,8 @@ fn plan_of(
     division: &mut [u8],
     chosen: &mut [u8],
 ) -> Answer
-    requires { ⌜ surveyRefusal n m k (kindRefusal kind) (now scores) (now rows) ≡ 0 ⌝ }
-    requires { ⌜ (length (now division) ≡ n) × (length (now chosen) ≡ k) ⌝ }
-    ensures { λ r. ⌜ answerText r m (now (rows .entry)) (now (chosen .exit)) (now (division .exit)) ≡ planText kind n m k (now (scores .entry)) (now (rows .entry)) ⌝ }
+    requires { ⌜ PlanAsked (planOf (townOf n m (now scores) (now rows)) k (now division) (now chosen)) kind ⌝ }
+    ensures { λ r. ⌜ answerText r m (was rows) (is chosen) (is division) ≡ planText (town n m scores rows) k kind ⌝ }
 {
     if kind == 0 {
         return planner::free_plan(n, m, k, scores, rows, division, chosen);
@@ -42,9 +44,9 @@ fn write_answer(
     division: &[u8],
     out: &mut [u8],
 ) -> usize
-    requires { ⌜ (m ≤ 64) × (length (now sites) ≤ 64) × (length (now division) ≤ 400) × (length (now division) * m ≤ length (now rows)) ⌝ }
-    requires { ⌜ 8192 ≤ length (now out) ⌝ }
-    ensures { λ r. ⌜ Written (now (out .entry)) 0 (answerText answer m (now (rows .entry)) (now (sites .entry)) (now (division .entry))) (now (out .exit)) r ⌝ }
+    requires { ⌜ ListingAsked m (now rows) (now sites) (now division) ⌝ }
+    requires { ⌜ mostText ≤ length (now out) ⌝ }
+    ensures { λ r. ⌜ Written (was out) 0 (answerText answer m (was rows) (was sites) (was division)) (is out) r ⌝ }
 {
     match answer {
         Answer::Total(total) => listing::write_listing(
@@ -71,10 +73,9 @@ fn print_plan(
     chosen: &mut [u8],
     out: &mut [u8],
 ) -> usize
-    requires { ⌜ surveyRefusal n m k (kindRefusal kind) (now scores) (now rows) ≡ 0 ⌝ }
-    requires { ⌜ (length (now division) ≡ n) × (length (now chosen) ≡ k) ⌝ }
-    requires { ⌜ 8192 ≤ length (now out) ⌝ }
-    ensures { λ r. ⌜ Written (now (out .entry)) 0 (planText kind n m k (now (scores .entry)) (now (rows .entry))) (now (out .exit)) r ⌝ }
+    requires { ⌜ PlanAsked (planOf (townOf n m (now scores) (now rows)) k (now division) (now chosen)) kind ⌝ }
+    requires { ⌜ mostText ≤ length (now out) ⌝ }
+    ensures { λ r. ⌜ Written (was out) 0 (planText (town n m scores rows) k kind) (is out) r ⌝ }
 {
     let answer = plan_of(kind, n, m, k, scores, rows, division, chosen);
     write_answer(answer, m, rows, chosen, division, out)
@@ -90,9 +91,9 @@ fn print_survey(
     rows: &[u8],
     out: &mut [u8],
 ) -> usize
-    requires { ⌜ surveyRefusal n m k (kindRefusal kind) (now scores) (now rows) ≡ 0 ⌝ }
-    requires { ⌜ 8192 ≤ length (now out) ⌝ }
-    ensures { λ r. ⌜ Written (now (out .entry)) 0 (planText kind n m k (now (scores .entry)) (now (rows .entry))) (now (out .exit)) r ⌝ }
+    requires { ⌜ SurveyAsked (townOf n m (now scores) (now rows)) k kind ⌝ }
+    requires { ⌜ mostText ≤ length (now out) ⌝ }
+    ensures { λ r. ⌜ Written (was out) 0 (planText (town n m scores rows) k kind) (is out) r ⌝ }
 {
     let mut division = [0u8; Survey::STREETS];
     let mut chosen = [0u8; Survey::SITES];
@@ -111,8 +112,8 @@ fn print_survey(
 
 // Writes what is printed for a file over the front of a buffer that has room for every text, and gives back how many bytes that is.
 pub fn print(file: &[u8], out: &mut [u8]) -> usize
-    requires { ⌜ 8192 ≤ length (now out) ⌝ }
-    ensures { λ r. ⌜ Written (now (out .entry)) 0 (printed (now (file .entry))) (now (out .exit)) r ⌝ }
+    requires { ⌜ mostText ≤ length (now out) ⌝ }
+    ensures { λ r. ⌜ Written (was out) 0 (printed (was file)) (is out) r ⌝ }
 {
     let mut rows = [0u8; Survey::ROWS];
     let mut scores = [0u16; Survey::SITES];

@@ -8,38 +8,41 @@ use lib.ListN.{length, replicate}
 use Rattle.counting.specs.Words.{_when_}
 use Rattle.counting.specs.Buffers.{after}
 use Rattle.balanced_plan.specs.Floor.{depth}
+use Rattle.survey.specs.Town.{Town, townOf}
 use Rattle.survey.specs.Rows.{scoreOf}
 use Rattle.survey_file.specs.Encode.{encode}
-use Rattle.survey_file.specs.Decode.{fileRefusal, streetsIn, sitesIn, chosenIn, kindIn, scoresIn, scoresPart, rowsIn}
-use Rattle.refusals.specs.Refusals.{checkRefusal, rowScoreRefusal, listTotalRefusal, freeDivisionRefusal, balancedDivisionRefusal, freePlanRefusal, balancedPlanRefusal, floorRefusal, freeHandRefusal, balancedHandRefusal, writeRefusal}
-use Rattle.planner.specs.Plans.{listTotal, freeDivision, freeSites, planTotal, balancedDivision, balancedRounds, balancedSites, planFloor}
+use Rattle.survey_file.specs.Decode.{fileRefusal, townIn, chosenIn, kindIn}
+use Rattle.refusals.specs.Inputs.{SurveyInput, surveyOf, rowInputOf, listInputOf, divisionOf, planOf, handOf, writeOf}
+use Rattle.refusals.specs.Refusals.{checkRefusal, rowScoreRefusal, listTotalRefusal, freeDivisionRefusal, balancedDivisionRefusal, freePlanRefusal}
+use Rattle.refusals.specs.Refusals.{balancedPlanRefusal, floorRefusal, freeHandRefusal, balancedHandRefusal, writeRefusal}
+use Rattle.plans.specs.Plans.{listTotal, freeDivision, freeSites, planTotal, balancedDivision, balancedRounds, balancedSites, planFloor}
 
--- a survey with the number of sites to choose: n, m, K, scores, rows
-pub data Town : Type 0 where
-  town : ℕ → ℕ → ℕ → List ℕ → List ℕ → Town
+-- a town with the number of sites to choose: n, m, K, scores, rows
+abbrev pub survey : ℕ → ℕ → ℕ → List ℕ → List ℕ → SurveyInput
+survey n m k scores rows = surveyOf (townOf n m scores rows) k
 
--- the first number after a town or its like is the refusal's; then come the total and the buffers afterwards
+-- the first number after a survey or its like is the refusal's; then come the total and the buffers afterwards
 pub data Line : Type 0 where
-  Check : Town → ℕ → Line
+  Check : SurveyInput → ℕ → Line
   RowScore : ℕ → List ℕ → List ℕ → ℕ → ℕ → ℕ → Line
-  ListTotal : Town → List ℕ → ℕ → ℕ → Line
-  FreeDivision : Town → List ℕ → ℕ → ℕ → List ℕ → Line
-  BalancedDivision : Town → List ℕ → ℕ → ℕ → List ℕ → Line
-  FreePlan : Town → ℕ → ℕ → List ℕ → List ℕ → Line
-  BalancedPlan : Town → ℕ → ℕ → List ℕ → List ℕ → Line
+  ListTotal : SurveyInput → List ℕ → ℕ → ℕ → Line
+  FreeDivision : SurveyInput → List ℕ → ℕ → ℕ → List ℕ → Line
+  BalancedDivision : SurveyInput → List ℕ → ℕ → ℕ → List ℕ → Line
+  FreePlan : SurveyInput → ℕ → ℕ → List ℕ → List ℕ → Line
+  BalancedPlan : SurveyInput → ℕ → ℕ → List ℕ → List ℕ → Line
   -- total and division after the rounds
-  Rounds : Town → ℕ → List ℕ → Line
-  Floor : Town → ℕ → ℕ → Line
+  Rounds : SurveyInput → ℕ → List ℕ → Line
+  Floor : SurveyInput → ℕ → ℕ → Line
   -- the places p of the rounds: m, K, places
   Places : ℕ → ℕ → List ℕ → Line
-  FreeHand : Town → List ℕ → ℕ → ℕ → Line
-  BalancedHand : Town → List ℕ → ℕ → ℕ → Line
+  FreeHand : SurveyInput → List ℕ → ℕ → ℕ → Line
+  BalancedHand : SurveyInput → List ℕ → ℕ → ℕ → Line
   -- the free plan's bound against a list of K sites: K ^ K * (T - S) ≤ (K - 1) ^ K * T, where T - S and T are as given
-  Bound : Town → List ℕ → ℕ → ℕ → Line
+  Bound : SurveyInput → List ℕ → ℕ → ℕ → Line
   -- a survey with its kind, and its file
-  File : Town → ℕ → List ℕ → Line
+  File : SurveyInput → ℕ → List ℕ → Line
   Read : List ℕ → ℕ → Line
-  Write : Town → ℕ → ℕ → ℕ → Line
+  Write : SurveyInput → ℕ → ℕ → ℕ → Line
 
 abbrev pub same : List ℕ → List ℕ → Bool
 same [] [] = true
@@ -60,41 +63,46 @@ places m k i [] = eqb i k
 places m k i (p ∷ rest) = eqb (depth m k i) p && places m k (Prim.Native.Nat.suc i) rest
 
 abbrev pub holds : Line → Bool
-holds (Check (town n m k scores rows) x) = eqb (checkRefusal n m k scores rows) x
-holds (RowScore m scores row site x score) = reported (rowScoreRefusal m scores row site) x (scoreOf scores row site) score
-holds (ListTotal (town n m k scores rows) sites x total) = reported (listTotalRefusal n m scores rows sites) x (listTotal n m scores rows sites) total
-holds (FreeDivision (town n m k scores rows) sites x total division) =
-    let r : ℕ = freeDivisionRefusal n m scores rows sites (blank n) in
-    reported r x (listTotal n m scores rows sites) total && same (after r (freeDivision n m rows sites) (blank n)) division
-holds (BalancedDivision (town n m k scores rows) sites x total division) =
-    let r : ℕ = balancedDivisionRefusal n m scores rows sites (blank n) in
-    let d : List ℕ = balancedDivision n m scores rows sites in
-    reported r x (planTotal m scores rows d) total && same (after r d (blank n)) division
-holds (FreePlan (town n m k scores rows) x total division chosen) =
-    let r : ℕ = freePlanRefusal n m k scores rows (blank n) (blank k) in
-    let sites : List ℕ = freeSites n m k scores rows in
-    reported r x (listTotal n m scores rows sites) total && same (after r (freeDivision n m rows sites) (blank n)) division && same (after r sites (blank k)) chosen
-holds (BalancedPlan (town n m k scores rows) x total division chosen) =
-    let r : ℕ = balancedPlanRefusal n m k scores rows (blank n) (blank k) in
-    let sites : List ℕ = balancedSites n m k scores rows in
-    let d : List ℕ = balancedDivision n m scores rows sites in
-    reported r x (planTotal m scores rows d) total && same (after r d (blank n)) division && same (after r sites (blank k)) chosen
-holds (Rounds (town n m k scores rows) total division) =
-    let d : List ℕ = balancedRounds n m k scores rows .division in
-    eqb (planTotal m scores rows d) total && same d division
-holds (Floor (town n m k scores rows) x total) = reported (floorRefusal n m k scores rows) x (planFloor n m k scores rows) total
+holds (Check i x) = eqb (checkRefusal i) x
+holds (RowScore m scores row site x score) = reported (rowScoreRefusal (rowInputOf m scores row site)) x (scoreOf scores row site) score
+holds (ListTotal i sites x total) = reported (listTotalRefusal (listInputOf (i .town) sites)) x (listTotal (i .town) sites) total
+holds (FreeDivision i sites x total division) =
+    let old : List ℕ = blank (i .town .n) in
+    let r : ℕ = freeDivisionRefusal (divisionOf (i .town) sites old) in
+    reported r x (listTotal (i .town) sites) total && same (after r (freeDivision (i .town) sites) old) division
+holds (BalancedDivision i sites x total division) =
+    let old : List ℕ = blank (i .town .n) in
+    let r : ℕ = balancedDivisionRefusal (divisionOf (i .town) sites old) in
+    let d : List ℕ = balancedDivision (i .town) sites in
+    reported r x (planTotal (i .town) d) total && same (after r d old) division
+holds (FreePlan i x total division chosen) =
+    let r : ℕ = freePlanRefusal (planOf (i .town) (i .k) (blank (i .town .n)) (blank (i .k))) in
+    let sites : List ℕ = freeSites (i .town) (i .k) in
+    reported r x (listTotal (i .town) sites) total && same (after r (freeDivision (i .town) sites) (blank (i .town .n))) division
+    && same (after r sites (blank (i .k))) chosen
+holds (BalancedPlan i x total division chosen) =
+    let r : ℕ = balancedPlanRefusal (planOf (i .town) (i .k) (blank (i .town .n)) (blank (i .k))) in
+    let sites : List ℕ = balancedSites (i .town) (i .k) in
+    let d : List ℕ = balancedDivision (i .town) sites in
+    reported r x (planTotal (i .town) d) total && same (after r d (blank (i .town .n))) division && same (after r sites (blank (i .k))) chosen
+holds (Rounds i total division) =
+    let d : List ℕ = balancedRounds (i .town) (i .k) .division in
+    eqb (planTotal (i .town) d) total && same d division
+holds (Floor i x total) = reported (floorRefusal i) x (planFloor (i .town) (i .k)) total
 holds (Places m k list) = places m k 0 list
-holds (FreeHand (town n m k scores rows) division claimed x) = eqb (freeHandRefusal n m k scores rows division claimed) x
-holds (BalancedHand (town n m k scores rows) division claimed x) = eqb (balancedHandRefusal n m k scores rows division claimed) x
-holds (Bound (town n m k scores rows) other missing reached) =
-    let t : ℕ = listTotal n m scores rows other in
-    let s : ℕ = listTotal n m scores rows (freeSites n m k scores rows) in
+holds (FreeHand i division claimed x) = eqb (freeHandRefusal (handOf (i .town) (i .k) division claimed)) x
+holds (BalancedHand i division claimed x) = eqb (balancedHandRefusal (handOf (i .town) (i .k) division claimed)) x
+holds (Bound i other missing reached) =
+    let k : ℕ = i .k in
+    let t : ℕ = listTotal (i .town) other in
+    let s : ℕ = listTotal (i .town) (freeSites (i .town) k) in
     eqb (t - s) missing && eqb t reached && eqb (length other) k && leb (k ^ k * missing) ((k - 1) ^ k * reached)
-holds (File (town n m k scores rows) kind file) =
-    same (encode n m k kind scores rows) file && eqb (fileRefusal file) 0 && eqb (streetsIn file) n && eqb (sitesIn file) m
-    && eqb (chosenIn file) k && eqb (kindIn file) kind && same (scoresIn m (scoresPart file)) scores && same (rowsIn file) rows
+holds (File i kind file) =
+    let read : Town = townIn file in
+    same (encode (i .town) (i .k) kind) file && eqb (fileRefusal file) 0 && eqb (read .n) (i .town .n) && eqb (read .m) (i .town .m)
+    && eqb (chosenIn file) (i .k) && eqb (kindIn file) kind && same (read .scores) (i .town .scores) && same (read .rows) (i .town .rows)
 holds (Read file x) = eqb (fileRefusal file) x
-holds (Write (town n m k scores rows) kind room x) = eqb (writeRefusal n m k kind scores rows (blank room)) x
+holds (Write i kind room x) = eqb (writeRefusal (writeOf (i .town) (i .k) kind (blank room))) x
 
 abbrev pub allHold : List Line → Bool
 allHold [] = true

@@ -4,55 +4,57 @@ use Prim.Native.Nat.{ℕ}
 use mathlib.Core.List.{List, [], _∷_, _++_}
 use lib.ListN.{replicate, set, take}
 use Rattle.counting.specs.Buffers.{joined}
-use Rattle.worked_towns.specs.Lines.{Town, Line, town, Check, RowScore, ListTotal, FreeDivision, BalancedDivision, FreePlan, BalancedPlan, Rounds, Floor, Places, FreeHand, BalancedHand, Bound, File, Read, Write, blank}
+use Rattle.refusals.specs.Inputs.{SurveyInput}
+use Rattle.worked_towns.specs.Lines.{Line, survey, Check, RowScore, ListTotal, FreeDivision, BalancedDivision, FreePlan, BalancedPlan, Rounds, Floor}
+use Rattle.worked_towns.specs.Lines.{Places, FreeHand, BalancedHand, Bound, File, Read, Write, blank}
 
 -- P1, also P2; with K 3 it is P7
-abbrev pub p1 : ℕ → Town
-p1 k = town 4 3 k (2 ∷ 1 ∷ 0 ∷ []) (1 ∷ 2 ∷ 3 ∷ 1 ∷ 3 ∷ 2 ∷ 2 ∷ 1 ∷ 0 ∷ 3 ∷ 2 ∷ 1 ∷ [])
+abbrev pub p1 : ℕ → SurveyInput
+p1 k = survey 4 3 k (2 ∷ 1 ∷ 0 ∷ []) (1 ∷ 2 ∷ 3 ∷ 1 ∷ 3 ∷ 2 ∷ 2 ∷ 1 ∷ 0 ∷ 3 ∷ 2 ∷ 1 ∷ [])
 
 -- P3, also P4
-abbrev pub p3 : Town
-p3 = town 6 3 2 (1 ∷ 1 ∷ 0 ∷ []) (1 ∷ 0 ∷ 0 ∷ 1 ∷ 3 ∷ 0 ∷ 1 ∷ 3 ∷ 0 ∷ 2 ∷ 3 ∷ 0 ∷ 2 ∷ 3 ∷ 0 ∷ 2 ∷ 0 ∷ 0 ∷ [])
+abbrev pub p3 : SurveyInput
+p3 = survey 6 3 2 (1 ∷ 1 ∷ 0 ∷ []) (1 ∷ 0 ∷ 0 ∷ 1 ∷ 3 ∷ 0 ∷ 1 ∷ 3 ∷ 0 ∷ 2 ∷ 3 ∷ 0 ∷ 2 ∷ 3 ∷ 0 ∷ 2 ∷ 0 ∷ 0 ∷ [])
 
 -- P5
-abbrev pub p5 : Town
-p5 = town 2 2 2 (2 ∷ 1 ∷ []) (1 ∷ 2 ∷ 1 ∷ 0 ∷ [])
+abbrev pub p5 : SurveyInput
+p5 = survey 2 2 2 (2 ∷ 1 ∷ []) (1 ∷ 2 ∷ 1 ∷ 0 ∷ [])
 
 -- P6: nine streets with one full list of ten sites
-abbrev pub p6 : Town
-p6 = town 9 10 3 (9 ∷ 8 ∷ 7 ∷ 6 ∷ 5 ∷ 4 ∷ 3 ∷ 2 ∷ 1 ∷ 0 ∷ []) (joined 9 (λ i. (1 ∷ 2 ∷ 3 ∷ 4 ∷ 5 ∷ 6 ∷ 7 ∷ 8 ∷ 9 ∷ 10 ∷ [])))
+abbrev pub p6 : SurveyInput
+p6 = survey 9 10 3 (9 ∷ 8 ∷ 7 ∷ 6 ∷ 5 ∷ 4 ∷ 3 ∷ 2 ∷ 1 ∷ 0 ∷ []) (joined 9 (λ i. (1 ∷ 2 ∷ 3 ∷ 4 ∷ 5 ∷ 6 ∷ 7 ∷ 8 ∷ 9 ∷ 10 ∷ [])))
 
 -- P8
-abbrev pub p8 : Town
-p8 = town 1 1 1 (7 ∷ []) (0 ∷ [])
+abbrev pub p8 : SurveyInput
+p8 = survey 1 1 1 (7 ∷ []) (0 ∷ [])
 
 -- the second round has only a rise of 0
-abbrev pub riseless : Town
-riseless = town 1 2 2 (1 ∷ 1 ∷ []) (2 ∷ 0 ∷ [])
+abbrev pub riseless : SurveyInput
+riseless = survey 1 2 2 (1 ∷ 1 ∷ []) (2 ∷ 0 ∷ [])
 
 -- over all free streets site 2 would come first, over a share site 1 does
-abbrev pub crowded : Town
-crowded = town 2 2 2 (3 ∷ 3 ∷ []) (1 ∷ 2 ∷ 2 ∷ 0 ∷ [])
+abbrev pub crowded : SurveyInput
+crowded = survey 2 2 2 (3 ∷ 3 ∷ []) (1 ∷ 2 ∷ 2 ∷ 0 ∷ [])
 
 -- two places score alike: the better place decides who is dealt
-abbrev pub level : Town
-level = town 2 3 2 (2 ∷ 2 ∷ 1 ∷ []) (3 ∷ 2 ∷ 0 ∷ 2 ∷ 0 ∷ 0 ∷ [])
+abbrev pub level : SurveyInput
+level = survey 2 3 2 (2 ∷ 2 ∷ 1 ∷ []) (3 ∷ 2 ∷ 0 ∷ 2 ∷ 0 ∷ 0 ∷ [])
 
 -- no swap of two streets gains after the rounds; a ring through three sites does
-abbrev pub ring : Town
-ring = town 3 3 3 (3 ∷ 2 ∷ 0 ∷ []) (3 ∷ 2 ∷ 0 ∷ 3 ∷ 0 ∷ 0 ∷ 2 ∷ 1 ∷ 0 ∷ [])
+abbrev pub ring : SurveyInput
+ring = survey 3 3 3 (3 ∷ 2 ∷ 0 ∷ []) (3 ∷ 2 ∷ 0 ∷ 3 ∷ 0 ∷ 0 ∷ 2 ∷ 1 ∷ 0 ∷ [])
 
 -- every division totals 0
-abbrev pub tied : Town
-tied = town 2 2 2 (0 ∷ 0 ∷ []) (0 ∷ 0 ∷ 1 ∷ 0 ∷ [])
+abbrev pub tied : SurveyInput
+tied = survey 2 2 2 (0 ∷ 0 ∷ []) (0 ∷ 0 ∷ 1 ∷ 0 ∷ [])
 
 -- all streets and all scores alike
-abbrev pub alike : Town
-alike = town 4 2 2 (1 ∷ 1 ∷ []) (1 ∷ 2 ∷ 1 ∷ 2 ∷ 1 ∷ 2 ∷ 1 ∷ 2 ∷ [])
+abbrev pub alike : SurveyInput
+alike = survey 4 2 2 (1 ∷ 1 ∷ []) (1 ∷ 2 ∷ 1 ∷ 2 ∷ 1 ∷ 2 ∷ 1 ∷ 2 ∷ [])
 
 -- one list is empty
-abbrev pub short : Town
-short = town 2 2 1 (5 ∷ 5 ∷ []) (1 ∷ 2 ∷ 0 ∷ 0 ∷ [])
+abbrev pub short : SurveyInput
+short = survey 2 2 1 (5 ∷ 5 ∷ []) (1 ∷ 2 ∷ 0 ∷ 0 ∷ [])
 
 -- P5 as a file
 abbrev pub p5file : List ℕ
@@ -114,25 +116,25 @@ scored =
 abbrev pub refused : List Line
 refused =
     Check (p1 2) 0 ∷
-    Check (town 400 1 1 (7 ∷ []) (replicate 400 0)) 0 ∷
-    Check (town 401 1 1 (7 ∷ []) (replicate 401 0)) 1 ∷
-    Check (town 0 65 0 [] []) 1 ∷
-    Check (town 1 64 64 (replicate 64 0) (replicate 64 0)) 0 ∷
-    Check (town 1 65 1 (replicate 65 0) (replicate 65 0)) 2 ∷
-    Check (town 1 0 0 [] []) 2 ∷
-    Check (town 1 2 0 (1 ∷ 0 ∷ []) (1 ∷ 0 ∷ [])) 3 ∷
-    Check (town 1 2 3 (1 ∷ 0 ∷ []) (1 ∷ 0 ∷ [])) 3 ∷
-    Check (town 1 2 3 (1 ∷ []) (1 ∷ [])) 3 ∷
-    Check (town 1 2 2 (1 ∷ []) (1 ∷ 0 ∷ [])) 6 ∷
-    Check (town 2 2 2 (1 ∷ 2 ∷ []) (1 ∷ 0 ∷ [])) 6 ∷
-    Check (town 1 2 1 (1000 ∷ 0 ∷ []) (1 ∷ 0 ∷ [])) 0 ∷
-    Check (town 1 2 1 (1001 ∷ 0 ∷ []) (0 ∷ 1 ∷ [])) 8 ∷
-    Check (town 1 2 1 (1 ∷ 2 ∷ []) (0 ∷ 1 ∷ [])) 8 ∷
-    Check (town 1 2 1 (1 ∷ 1 ∷ []) (0 ∷ 1 ∷ [])) 9 ∷
-    Check (town 1 2 1 (1 ∷ 1 ∷ []) (0 ∷ 3 ∷ [])) 9 ∷
-    Check (town 1 2 1 (1 ∷ 1 ∷ []) (3 ∷ 3 ∷ [])) 10 ∷
-    Check (town 1 2 1 (1 ∷ 1 ∷ []) (2 ∷ 2 ∷ [])) 11 ∷
-    Check (town 2 2 1 (1 ∷ 1 ∷ []) (1 ∷ 1 ∷ 0 ∷ 1 ∷ [])) 11 ∷
+    Check (survey 400 1 1 (7 ∷ []) (replicate 400 0)) 0 ∷
+    Check (survey 401 1 1 (7 ∷ []) (replicate 401 0)) 1 ∷
+    Check (survey 0 65 0 [] []) 1 ∷
+    Check (survey 1 64 64 (replicate 64 0) (replicate 64 0)) 0 ∷
+    Check (survey 1 65 1 (replicate 65 0) (replicate 65 0)) 2 ∷
+    Check (survey 1 0 0 [] []) 2 ∷
+    Check (survey 1 2 0 (1 ∷ 0 ∷ []) (1 ∷ 0 ∷ [])) 3 ∷
+    Check (survey 1 2 3 (1 ∷ 0 ∷ []) (1 ∷ 0 ∷ [])) 3 ∷
+    Check (survey 1 2 3 (1 ∷ []) (1 ∷ [])) 3 ∷
+    Check (survey 1 2 2 (1 ∷ []) (1 ∷ 0 ∷ [])) 6 ∷
+    Check (survey 2 2 2 (1 ∷ 2 ∷ []) (1 ∷ 0 ∷ [])) 6 ∷
+    Check (survey 1 2 1 (1000 ∷ 0 ∷ []) (1 ∷ 0 ∷ [])) 0 ∷
+    Check (survey 1 2 1 (1001 ∷ 0 ∷ []) (0 ∷ 1 ∷ [])) 8 ∷
+    Check (survey 1 2 1 (1 ∷ 2 ∷ []) (0 ∷ 1 ∷ [])) 8 ∷
+    Check (survey 1 2 1 (1 ∷ 1 ∷ []) (0 ∷ 1 ∷ [])) 9 ∷
+    Check (survey 1 2 1 (1 ∷ 1 ∷ []) (0 ∷ 3 ∷ [])) 9 ∷
+    Check (survey 1 2 1 (1 ∷ 1 ∷ []) (3 ∷ 3 ∷ [])) 10 ∷
+    Check (survey 1 2 1 (1 ∷ 1 ∷ []) (2 ∷ 2 ∷ [])) 11 ∷
+    Check (survey 2 2 1 (1 ∷ 1 ∷ []) (1 ∷ 1 ∷ 0 ∷ 1 ∷ [])) 11 ∷
     []
 
 -- lists of sites: 3 for the length, 17 all through, then 20

@@ -3,61 +3,97 @@ use borrow.Author.Needs.{needs}
 use native.Mathlib.Omega.{arith}
 use native.Mathlib.Nat.{le-trans}
 use mathlib.Core.Path.{_≡_, sym, _∙_}
-use Prim.Native.Nat.{ℕ}
+use mathlib.Core.List.{List}
+use Prim.Native.Nat.{ℕ, _*_, _≤_}
 use lib.ListN.{length, replicate, length-replicate}
 use lib.Seq.{length-take-le}
+use Rattle.counting.specs.Bounds.{mostSites, mostRows}
 use Rattle.listing.specs.Listing.{refusedLine}
 use Rattle.listing.proofs.Sizes.{refused-fits}
 use Rattle.listing.proofs.Rooms.{start-room, written-same}
-use Rattle.printing.proofs.Printed.{Held, held, refused-printed}
+use Rattle.printing.specs.Texts.{printed}
+use Rattle.printing.proofs.FileTexts.{SurveyRead, survey-read, refused-printed}
 use Rattle.printing.proofs.print.Statement.{statement}
 use Rattle.printing.proofs.print.Tie as tie
 
--- the buffers keep their lengths
-rows-long : (c : tie.After-read-file) → length (c .read-file .last .1 .0) ≡ 25600
-rows-long c = c .read-file .kept .1 .0 ∙ length-replicate {A = ℕ} 25600 0
+-- the two arrays have the lengths that reading asks for
+rows-blank : length {A = ℕ} (replicate mostRows 0) ≡ mostRows
+rows-blank = length-replicate {A = ℕ} mostRows 0
 
-scores-wide : (c : tie.After-read-file) → length (c .read-file .last .1 .1 .0) ≡ 64
-scores-wide c = c .read-file .kept .1 .1 .0 ∙ length-replicate {A = ℕ} 64 0
+scores-blank : length {A = ℕ} (replicate mostSites 0) ≡ mostSites
+scores-blank = length-replicate {A = ℕ} mostSites 0
 
--- the survey is in the buffers
-survey : (c : tie.After-answer) → let s = c .answer .given .0 in
-    Held (c .before .before .before .before .before .before .before .before .before .args .file .now) (c .before .before .before .before .read-file .last .1 .0) (c .before .before .before .before .read-file .last .1 .1 .0) (s .0) (s .1 .0) (s .1 .1 .0) (s .1 .1 .1 .0)
-survey c =
-    let t = c .before .before .before .before .read-file .ensures in
-    held (c .before .before .before .before .read-file .result) (c .before .before .before .before .before .before .before .before .before .args .file .now) (replicate 25600 0) (replicate 64 0) _ _ _ _ _ _ (c .answer .given .1) (t .0) (t .1 .0) (t .1 .1 .0) (t .1 .1 .1)
-    (length-replicate {A = ℕ} 25600 0) (length-replicate {A = ℕ} 64 0)
+-- ---- once the file is read: the arrays keep their lengths
+abbrev entry : tie.After-read-file → tie.Start
+entry r = r .before .before .before .before .before
+
+abbrev rows : tie.After-read-file → List ℕ
+rows r = r .read-file .last .1 .0
+
+abbrev scores : tie.After-read-file → List ℕ
+scores r = r .read-file .last .1 .1 .0
+
+rows-long : (r : tie.After-read-file) → length (rows r) ≡ mostRows
+rows-long r = r .read-file .kept .1 .0 ∙ rows-blank
+
+scores-wide : (r : tie.After-read-file) → length (scores r) ≡ mostSites
+scores-wide r = r .read-file .kept .1 .1 .0 ∙ scores-blank
+
+-- ---- once the answer is a survey: it is in the fronts of the arrays
+abbrev reading : tie.After-answer → tie.After-read-file
+reading s = s .before .before .before .before
+
+-- n, m, k and the kind
+abbrev sizes : tie.After-answer → ℕ × ℕ × ℕ × ℕ
+sizes s = let g = s .answer .given .0 in (g .0, g .1 .0, g .1 .1 .0, g .1 .1 .1 .0)
+
+survey : (s : tie.After-answer) → let (n, m, k, kind) = sizes s in
+    SurveyRead (entry (reading s) .args .file .now) (rows (reading s)) (scores (reading s)) n m k kind
+survey s = survey-read (reading s .read-file .ensures) rows-blank scores-blank (s .answer .given .1)
+
+scores-there : (s : tie.After-answer) → sizes s .1 ≤ length (scores (reading s))
+scores-there s = rw (scores-wide (reading s)) (survey s .few-sites)
+
+rows-there : (s : tie.After-answer) → sizes s .0 * sizes s .1 ≤ length (rows (reading s))
+rows-there s = rw (rows-long (reading s)) (survey s .few-rows)
+
+-- ---- once it is a refusal: its line is what is printed
+abbrev refused-reading : tie.After-answer2 → tie.After-read-file
+refused-reading x = x .before .before .before .before
+
+refused : (x : tie.After-answer2) → refusedLine (x .answer2 .given .0 .0) ≡ printed (entry (refused-reading x) .args .file .now)
+refused x = refused-printed (refused-reading x .read-file .ensures) rows-blank scores-blank (x .answer2 .given .1)
 
 mul-size : tie.Need-mul-size
 mul-size c = omega (arith, survey (c .before) .few-rows)
 
 array-share-prefix-scores : tie.Need-array-share-prefix-scores
-array-share-prefix-scores c = omega (arith, survey (c .before) .few-sites, scores-wide (c .before .before .before .before .before))
+array-share-prefix-scores c = scores-there (c .before)
 
 slice-aggregate-print-survey : tie.Need-slice-aggregate-print-survey
-slice-aggregate-print-survey c = sym (length-take-le _ (c .before .before .before .before .before .before .read-file .last .1 .1 .0) (omega (arith, survey (c .before .before) .few-sites, scores-wide (c .before .before .before .before .before .before))))
+slice-aggregate-print-survey c = sym (length-take-le _ _ (scores-there (c .before .before)))
 
 array-share-prefix-rows : tie.Need-array-share-prefix-rows
-array-share-prefix-rows c = omega (arith, survey (c .before .before) .few-rows, rows-long (c .before .before .before .before .before .before))
+array-share-prefix-rows c = rows-there (c .before .before)
 
 slice-aggregate-print-survey-2 : tie.Need-slice-aggregate-print-survey-2
-slice-aggregate-print-survey-2 c = sym (length-take-le _ (c .before .before .before .before .before .before .before .read-file .last .1 .0) (omega (arith, survey (c .before .before .before) .few-rows, rows-long (c .before .before .before .before .before .before .before))))
+slice-aggregate-print-survey-2 c = sym (length-take-le _ _ (rows-there (c .before .before .before)))
 
 print-survey-requires : tie.Need-print-survey-requires
-print-survey-requires c κs = (survey (c .before .before .before .before) .sound, c .before .before .before .before .before .before .before .before .before .before .before .before .before .pre)
+print-survey-requires c κs =
+    let s = c .before .before .before .before in
+    (survey s .asked, entry (reading s) .pre)
 
 write-line-requires : tie.Need-write-line-requires
 write-line-requires c κs =
     let x = c .before .before .before .answer2 .given .0 .0 in
-    start-room _ (refusedLine x) (le-trans (refused-fits x (omega arith)) (c .before .before .before .before .before .before .before .before .before .before .before .before .pre))
+    start-room _ (refusedLine x) (le-trans (refused-fits x (omega arith)) (entry (refused-reading (c .before .before .before)) .pre))
 
 returns : tie.Need-returns
 returns c = written-same (survey (c .before .before .before .before .before .before .before) .text) (c .before .before .print-survey .ensures)
 
 returns-2 : tie.Need-returns-2
-returns-2 c =
-    let r = c .before .before .before .before .before .before .before .before .before .before .read-file in
-    written-same (refused-printed (r .result) _ (c .before .before .before .before .before .before .before .before .before .before .before .before .before .before .before .args .file .now) (replicate 25600 0) (replicate 64 0) (length-replicate {A = ℕ} 25600 0) (length-replicate {A = ℕ} 64 0) (c .before .before .before .before .before .before .answer2 .given .1) (r .ensures .0)) (c .before .before .write-line .ensures)
+returns-2 c = written-same (refused (c .before .before .before .before .before .before)) (c .before .before .write-line .ensures)
 
 pub print-spec : {M : Type 1} → statement M
 print-spec =
