@@ -31,14 +31,11 @@ mapped-more f before now i x l h e =
 pub mapped-end : (f : ℕ → ℕ → ℕ) (before now : List ℕ) (i n : ℕ) → n ≤ i → i ≤ n → Mapped f before now i → Mapped f before now n
 mapped-end f before now i n a b h = rw (le-antisymm b a) at h
 
--- a list that is filled to its end with the numbers of a function, or of another list, is that list
+-- a list that is filled to its end with the numbers of a function is the list of them
 pub mapped-listOf : (g : ℕ → ℕ) (before now : List ℕ) (n : ℕ) → n ≡ length before → Mapped (λ i x. g i) before now n → now ≡ listOf n g
 mapped-listOf g before now n e h =
     ext-getD 0 now (listOf n g) (h .size ∙ sym e ∙ sym (listOf-length n g))
     (λ i l. let less : i < n = omega (arith, h .size) in h .done i less ∙ sym (listOf-at n g i less))
-
-pub mapped-list : (list before now : List ℕ) (n : ℕ) → length list ≡ length before → n ≡ length before → Mapped (λ i x. at list i) before now n → now ≡ list
-mapped-list list before now n s e h = ext-getD 0 now list (h .size ∙ sym s) (λ i l. h .done i (omega (arith, h .size)))
 
 -- what stands in a list of which each number has become f of what it was
 map-at : (f : ℕ → ℕ) (list : List ℕ) (i : ℕ) → i < length list → at (map f list) i ≡ f (at list i)

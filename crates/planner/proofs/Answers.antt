@@ -1,4 +1,4 @@
--- Laws of the answers, from the number x that a call's tries gave. The ruleset `answers` is for `search`.
+-- Laws of the answers, from the number x that a call's tries gave.
 -- Assumes nothing.
 use mathlib.Core.Path.{_≡_, refl, sym, _∙_}
 use mathlib.Core.List.{List}
@@ -44,5 +44,3 @@ module _ {A : Type 0} {chain : A → ℕ} {i : A} {x : ℕ} (tried : Tried chain
     -- a lent buffer holds the new bytes
     pub new-accepted : (new old : List ℕ) {now : List ℕ} → now ≡ new → now ≡ after (chain i) new old
     new-accepted new old {now} q = new-after (chain i) new old now (sym (tried .first) ∙ z) q
-
-pub ruleset answers = (told-refused, told-total)

@@ -11,10 +11,17 @@ returns : tie.Need-returns
 returns c = record { first = refuse-unless 6 _ _ (lit< tt) (ne-eqb _ _ (c .if1 .taken)) }
 
 returns-2 : tie.Need-returns-2
-returns-2 c = record { first = skip-unless _ 6 _ _ (eq-eqb _ _ (c .before .if1 .left)) (refuse-unless 6 _ _ (lit< tt) (ne-eqb _ _ (c .if2 .taken))) }
+returns-2 c =
+    let second = refuse-unless 6 _ _ (lit< tt) (ne-eqb _ _ (c .if2 .taken)) in
+    record { first = skip-unless _ 6 _ _ (eq-eqb _ _ (c .before .if1 .left)) second }
 
 returns-3 : tie.Need-returns-3
-returns-3 c = record { first = skip-unless _ 6 _ _ (eq-eqb _ _ (c .before .before .before .if1 .left)) (skip-unless _ 6 _ _ (eq-eqb _ _ (c .before .before .if2 .left)) (c .number-of .ensures ∙ c .before .check .ensures .0)) }
+returns-3 c =
+    let file = c .number-of .ensures ∙ c .before .check .ensures .0 in
+    let tried = c .before .before in
+    record {
+      first = skip-unless _ 6 _ _ (eq-eqb _ _ (tried .before .if1 .left)) (skip-unless _ 6 _ _ (eq-eqb _ _ (tried .if2 .left)) file);
+    }
 
 pub read-refusal-spec : {M : Type 1} → statement M
 read-refusal-spec =
