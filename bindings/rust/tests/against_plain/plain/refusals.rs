@@ -28,7 +28,7 @@ pub fn kind(kind: usize) -> Tried {
 }
 
 pub fn share(n: usize, k: usize) -> Tried {
-    refuse(5, n % k != 0)
+    refuse(5, !n.is_multiple_of(k))
 }
 
 pub fn length(buffer: usize, exact: usize) -> Tried {

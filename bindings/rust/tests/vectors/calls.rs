@@ -1,0 +1,128 @@
+//! The calls that vectors name: what each is given, what it gives, and the archive's function for it. The functions are the raw ones, since
+//! the safe ones keep back a refused call's total and what it leaves in the four numbers that the reader is lent.
+use crate::lent::Lent;
+use planner::raw::*;
+use std::collections::BTreeMap;
+use std::fmt::Debug;
+
+/// A call with the keys of its inputs and of the outputs that it has where it is accepted.
+pub struct Call {
+    pub name: &'static str,
+    pub inputs: &'static str,
+    /// a buffer with `..` behind its key is filled in front and keeps the rest; any other is written whole
+    pub outputs: &'static str,
+    pub run: fn(&mut Given) -> u64,
+}
+
+/// Calls a function of the archive: numbers go as they are, a buffer as where it starts and its length, and more numbers may follow.
+macro_rules! pass {
+    ($given:ident, $function:ident, $($number:ident)*; $($buffer:ident)*; $($last:ident)*) => {
+        // SAFETY: each pointer stands beside the length of the memory that it starts, which is this buffer's alone.
+        unsafe {
+            $function(
+                $($given.number(stringify!($number)),)*
+                $($given.start(stringify!($buffer)), $given.length(stringify!($buffer)),)*
+                $($given.number(stringify!($last)),)*
+            )
+        }
+    };
+}
+
+#[rustfmt::skip]
+pub const CALLS: [Call; 11] = [
+    Call { name: "check_survey", inputs: "n m k scores rows", outputs: "",
+           run: |given| pass!(given, planner_check_survey, n m k; scores rows;) },
+    Call { name: "ranked_part", inputs: "row", outputs: "length",
+           run: |given| pass!(given, planner_ranked_part, ; row;) as u64 },
+    Call { name: "row_score", inputs: "m scores row site", outputs: "total",
+           run: |given| pass!(given, planner_row_score, m; scores row; site) },
+    Call { name: "list_total", inputs: "n m scores rows sites", outputs: "total",
+           run: |given| pass!(given, planner_list_total, n m; scores rows sites;) },
+    Call { name: "free_division", inputs: "n m scores rows sites division-length", outputs: "total division",
+           run: |given| pass!(given, planner_free_division, n m; scores rows sites division;) },
+    Call { name: "balanced_division", inputs: "n m scores rows sites division-length", outputs: "total division",
+           run: |given| pass!(given, planner_balanced_division, n m; scores rows sites division;) },
+    Call { name: "plan", inputs: "n m k kind scores rows division-length chosen-length", outputs: "total chosen division",
+           run: |given| match given.kind() {
+               Kind::Free => pass!(given, planner_free_plan, n m k; scores rows division chosen;),
+               Kind::Balanced => pass!(given, planner_balanced_plan, n m k; scores rows division chosen;),
+           } },
+    Call { name: "floor", inputs: "n m k scores rows", outputs: "total",
+           run: |given| pass!(given, planner_floor, n m k; scores rows;) },
+    Call { name: "hand_plan", inputs: "n m k kind scores rows division claimed", outputs: "total",
+           run: |given| match given.kind() {
+               Kind::Free => pass!(given, planner_free_hand, n m k; scores rows division; claimed),
+               Kind::Balanced => pass!(given, planner_balanced_hand, n m k; scores rows division; claimed),
+           } },
+    Call { name: "read_file", inputs: "file rows-length scores-length", outputs: "n m k kind rows.. scores..",
+           run: read_file },
+    Call { name: "write_file", inputs: "n m k kind scores rows file-length", outputs: "length file..",
+           run: |given| pass!(given, planner_write_file, n m k kind; scores rows file;) },
+];
+
+/// The reader, which is lent its four numbers too.
+fn read_file(given: &mut Given) -> u64 {
+    // SAFETY: as above; each of the four numbers has memory of its own.
+    unsafe {
+        planner_read_file(
+            given.start("file"),
+            given.length("file"),
+            given.start("rows"),
+            given.length("rows"),
+            given.start("scores"),
+            given.length("scores"),
+            given.start("n"),
+            given.start("m"),
+            given.start("k"),
+            given.start("kind"),
+        )
+    }
+}
+
+/// The keys that stand for one number; every other key stands for a buffer.
+pub const NUMBERS: [&str; 6] = ["n", "m", "k", "kind", "site", "claimed"];
+
+/// The bytes of a number, or of an entry of a buffer.
+pub fn width(key: &str) -> usize {
+    match key {
+        "n" | "m" | "k" | "kind" => 8,
+        "claimed" => 4,
+        "scores" => 2,
+        _ => 1,
+    }
+}
+
+/// The kinds of plan that have an entry.
+enum Kind {
+    Free,
+    Balanced,
+}
+
+/// What a call is given, by key: numbers, and memory that is lent.
+pub struct Given {
+    pub place: String,
+    pub numbers: BTreeMap<String, u64>,
+    pub lent: BTreeMap<String, Lent>,
+}
+
+impl Given {
+    fn number<T: TryFrom<u64, Error: Debug>>(&self, key: &str) -> T {
+        self.numbers[key].try_into().expect("a number that fits, as was tried when it was read")
+    }
+
+    fn start<T>(&mut self, key: &str) -> *mut T {
+        self.lent.get_mut(key).expect("a buffer of the table").start()
+    }
+
+    fn length(&self, key: &str) -> usize {
+        self.lent[key].length()
+    }
+
+    fn kind(&self) -> Kind {
+        match self.numbers["kind"] {
+            0 => Kind::Free,
+            1 => Kind::Balanced,
+            kind => panic!("{}: no entry has kind {kind}", self.place),
+        }
+    }
+}

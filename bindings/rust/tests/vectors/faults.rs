@@ -1,0 +1,57 @@
+//! What the runner has to find: blocks that no call is for, and memory that is not as it should be.
+use crate::lent::Lent;
+use crate::run;
+
+const RIGHT: &str = "# a row\n\ncall ranked_part\nrow 3 1 0\n=> 0\nlength 2\n";
+
+/// The lines of what is wrong, for the right text with one part of it changed.
+fn changed(old: &str, new: &str) -> Vec<String> {
+    assert_eq!(RIGHT.matches(old).count(), 1);
+    run::every_block("here", &RIGHT.replace(old, new)).1
+}
+
+#[test]
+fn wrong_blocks() {
+    assert_eq!(run::every_block("here", RIGHT), (1, Vec::new()));
+    assert_eq!(changed("ranked_part", "ranked"), ["here:3: no call `ranked` is known"]);
+    assert_eq!(changed("call ", ""), ["here:3: a block starts with `call NAME`"]);
+    assert_eq!(changed("=> 0\n", ""), ["here:3: no line `=> NUMBER`"]);
+    assert_eq!(changed("=> 0", "=> none"), ["here:5: no number behind =>"]);
+    assert_eq!(changed("row 3 1 0", "row 3 1 0\nm 3"), ["here:5: `ranked_part` has no line `m`, or has it twice"]);
+    assert_eq!(changed("row 3 1 0", "row 3\nrow 3"), ["here:5: `ranked_part` has no line `row`, or has it twice"]);
+    assert_eq!(changed("row 3 1 0\n", ""), ["here:3: `ranked_part` lacks its line `row`"]);
+    assert_eq!(changed("length 2", "length 2\ntotal 2"), ["here:7: `ranked_part` has no line `total`, or has it twice"]);
+    assert_eq!(changed("length 2\n", ""), ["here:3: `ranked_part` lacks its line `length`"]);
+    assert_eq!(changed("length 2", "length 2 2"), ["here:6: `length` is one number and has 2"]);
+    assert_eq!(changed("3 1 0", "3 -1 0"), ["here:4: `-1` is no value of `row`"]);
+    assert_eq!(changed("3 1 0", "256 1 0"), ["here:4: 256 is too large for `row`"]);
+    assert_eq!(run::every_block("here", "# nothing\n"), (0, vec!["here: no call in it".to_string()]));
+}
+
+#[test]
+fn wrong_outcomes() {
+    assert_eq!(changed("length 2", "length 3"), ["here:3: ranked_part answers 0 with 2, and 0 with 3 is due"]);
+    assert_eq!(changed("=> 0\nlength 2", "=> 6"), ["here:3: ranked_part answers 0 with 2, and 6 with 0 is due"]);
+    let division = "call free_division\nn 1\nm 1\nscores 7\nrows 1\nsites 1\ndivision-length 1\n=> 0\ntotal 7\ndivision ";
+    assert_eq!(run::every_block("here", &format!("{division}1\n")), (1, Vec::new()));
+    let wrong = ["here:1: `division` after free_division: its entry 1 is 1 and should be 0"];
+    assert_eq!(run::every_block("here", &format!("{division}0\n")).1, wrong);
+    assert_eq!(run::every_block("here", &format!("{division}1 1\n")).1, ["here:10: 2 values for the 1 entries of `division`"]);
+}
+
+#[test]
+fn writes_that_are_not_due() {
+    for width in [1, 2, 4, 8] {
+        let mut lent = Lent::holding(&[1, 2, 3], width, 0);
+        assert_eq!(lent.difference(), None);
+        for (at, found) in [(-1, "a byte before it was written"), (3 * width as isize, "a byte behind it was written")] {
+            let byte = lent.first_byte().wrapping_offset(at);
+            // SAFETY: the guards stand there.
+            unsafe { *byte ^= 1 };
+            assert_eq!(lent.difference().as_deref(), Some(found));
+            unsafe { *byte ^= 1 };
+        }
+        lent.expect(&[1, 5]);
+        assert_eq!(lent.difference().as_deref(), Some("its entry 2 is 2 and should be 5"));
+    }
+}
