@@ -2,7 +2,7 @@
 -- Assumes nothing.
 use mathlib.Core.Path.{_≡_, sym}
 use mathlib.Core.Logic.{⊎-elim}
-use Prim.Native.Nat.{ℕ, _≤_, _<_}
+use Prim.Native.Nat.{ℕ, _+_, _≤_, _<_}
 use native.Mathlib.Nat.{eq-zero-or-pos}
 use native.Mathlib.Omega.{arith}
 use Rattle.counting.specs.Words.{_orElse_}
@@ -18,6 +18,11 @@ module _ (place : ℕ → ℕ → ℕ) (m a s : ℕ) where
   key-unranked : place s a ≡ 0 → m < placeKey place m a s
   unfolding _orElse_
   key-unranked e = rw e (omega arith)
+
+  -- so no key is above m + 1
+  pub key-most : place s a ≤ m → placeKey place m a s ≤ m + 1
+  unfolding _orElse_
+  key-most l = ⊎-elim (λ e. rw e (omega arith)) (λ k. omega (arith, key-ranked k)) (eq-zero-or-pos (place s a))
 
 -- a street that the key puts first scores no less, where scores never rise with the place and no place scores 0
 pub place-falls : (place : ℕ → ℕ → ℕ) (score : ℕ → ℕ) (m : ℕ) → ((p r : ℕ) → 0 < p → p ≤ r → score r ≤ score p) → score 0 ≡ 0

@@ -3,30 +3,39 @@
 use mathlib.Core.Path.{_≡_}
 use mathlib.Core.Bool.{true}
 use mathlib.Core.List.{List}
-use Prim.Native.Nat.{ℕ, _*_, _≤_, _<_}
+use Prim.Native.Nat.{ℕ, _+_, _*_, _≤_, _<_}
 use native.Mathlib.Omega.{arith}
 use lib.ListN.{length, drop, length-take}
 use Rattle.counting.specs.Lists.{at}
 use Rattle.counting.proofs.Sums.{has-at}
 use Rattle.survey.specs.Town.{Town}
-use Rattle.survey.specs.Rows.{rowOf, rankedPart, placeOf, scoreAt, value, streetPlace}
+use Rattle.survey.specs.Rows.{rowAt, rankedPart, placeOf, scoreAt, value, streetPlace}
 use Rattle.survey.specs.Accepted.{Accepted}
 use Rattle.survey.proofs.Lists.{place-most, score-later, ranked-length}
 use Rattle.survey.proofs.Places.{score-none}
 use Rattle.plans.specs.Plans.{streetKey}
 use Rattle.balanced_plan.specs.Rounds.{ordered}
-use Rattle.balanced_plan.proofs.Keys.{place-falls}
+use Rattle.balanced_plan.proofs.Keys.{key-most, place-falls}
 use Rattle.balanced_plan.proofs.Ordered.{ordered-street, ordered-rising, rising-at}
 use Rattle.balanced_rounds.specs.Lines.{Orders, Falls, Falling}
 use Rattle.balanced_results.specs.Plans.{rowKey, FallsByPlace}
+
+-- no place is above the number of sites
+place-few : (m : ℕ) (rows : List ℕ) (s a : ℕ) → placeOf (rowAt m rows s) a ≤ m
+place-few m rows s a =
+    let row : List ℕ = rowAt m rows s in
+    omega (arith, place-most (rankedPart row) a, ranked-length row, length-take m (drop (s * m) rows))
+
+-- so no key is above one more
+pub key-few : (m : ℕ) (rows : List ℕ) (a s : ℕ) → rowKey m rows a s ≤ m + 1
+key-few m rows a s = key-most (λ t b. placeOf (rowAt m rows t) b) m a s (place-few m rows s a)
 
 module _ {t : Town} (ok : Accepted t) where
   -- the key puts first a street that scores no less
   pub key-falls : (a s u : ℕ) → s < t .n → u < t .n → streetKey t a s ≤ streetKey t a u → value t u a ≤ value t s a
   key-falls a s u l h =
-      let row : List ℕ = rowOf t u in
-      let high : placeOf row a ≤ t .m = omega (arith, place-most (rankedPart row) a, ranked-length row, length-take (t .m) (drop (u * t .m) (t .rows))) in
-      place-falls (streetPlace t) (scoreAt (t .scores)) (t .m) (score-later (t .scores) (ok .sound-scores)) (score-none (t .scores)) a s u high
+      place-falls (streetPlace t) (scoreAt (t .scores)) (t .m) (score-later (t .scores) (ok .sound-scores)) (score-none (t .scores)) a s u
+      (place-few (t .m) (t .rows) u a)
 
   -- and so do the values of its table, for a buffer of n streets
   pub table-falls : (v : ℕ → ℕ → ℕ) (j : ℕ) → j ≡ t .n → ((s a : ℕ) → s < t .n → a ≤ t .m → v s a ≡ value t s a) → FallsByPlace v j (t .m) (t .rows)

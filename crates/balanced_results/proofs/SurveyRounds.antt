@@ -94,6 +94,13 @@ module _ {n m : ℕ} {list : List ℕ} (rest : List ℕ) (sized : Sized n m list
       keys-right n m lent lent-size key
       (along (λ (L : List ℕ). (a s : ℕ) → a ≤ m → s < n → cell L n a s ≡ key a s) (back-is ((m + 1) * n) list rest (sized .size)) h)
 
+  -- and none is above a bound that they keep
+  pub lent-few : (key : ℕ → ℕ → ℕ) (most : ℕ) → ((a s : ℕ) → a ≤ m → s < n → cell list n a s ≡ key a s) → ((a s : ℕ) → key a s ≤ most)
+      → (a s : ℕ) → a ≤ m → s < n → cell lent n a s ≤ most
+  lent-few key most h few =
+      along (λ (L : List ℕ). (a s : ℕ) → a ≤ m → s < n → cell L n a s ≤ most) (back-is ((m + 1) * n) list rest (sized .size))
+      (λ a s l u. omega (arith, h a s l u, few a s))
+
 -- ---- the rounds' sites and division
 module _ (v key : ℕ → ℕ → ℕ) (n m k : ℕ) (few : k ≤ m) (even : k * (n / k) ≡ n) where
   -- the sites after the rounds

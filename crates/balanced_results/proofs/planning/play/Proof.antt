@@ -3,16 +3,18 @@ use borrow.Author.Needs.{needs}
 use mathlib.Core.Path.{_≡_, refl, sym, _∙_}
 use mathlib.Core.List.{List}
 use Prim.Native.Nat.{ℕ, _+_, _*_, _≤_}
+use native.Mathlib.Omega.{arith}
 use lib.ListN.{length, take, replicate}
 use Rattle.counting.specs.Bounds.{mostEntries}
 use Rattle.counting.proofs.Parts.{front-length}
+use Rattle.orders.specs.Places.{mostKey}
 use Rattle.tables.specs.Tables.{valueIn}
 use Rattle.tables.proofs.Filling.{table-small}
 use Rattle.balanced_plan.specs.Rounds.{evenShare}
 use Rattle.balanced_plan.proofs.Agree.{rounds-agree}
 use Rattle.balanced_results.specs.Plans.{rowKey}
-use Rattle.balanced_results.proofs.FallingLines.{lines-fall}
-use Rattle.balanced_results.proofs.SurveyRounds.{Sized, lent-room, lent-size, lent-orders, lent-keys}
+use Rattle.balanced_results.proofs.FallingLines.{key-few, lines-fall}
+use Rattle.balanced_results.proofs.SurveyRounds.{Sized, lent-room, lent-size, lent-orders, lent-keys, lent-few}
 use Rattle.balanced_results.proofs.planning.play.Statement.{statement}
 use Rattle.balanced_results.proofs.planning.play.Tie as tie
 
@@ -68,8 +70,11 @@ slice-aggregate-fill-orders-2 c = sym (blank (keyed (c .before .before .before))
 fill-orders-requires : tie.Need-fill-orders-requires
 fill-orders-requires c κs =
     let i = c .before .before .before in
+    let a = keyed i .args in
     let p = keyed i .pre in
-    (p .0 .0 .few-streets, p .0 .0 .few-sites, lent-size _ (keys-size i), blank (keyed i))
+    let few = lent-few _ (keys-size i) (rowKey (a .m) (a .rows .now)) mostKey (i .fill-keys .ensures)
+    (λ x s. omega (arith, key-few (a .m) (a .rows .now) x s, p .0 .0 .few-sites)) in
+    ((p .0 .0 .few-streets, p .0 .0 .few-sites, lent-size _ (keys-size i), blank (keyed i)), few)
 
 array-share-prefix-orders : tie.Need-array-share-prefix-orders
 array-share-prefix-orders c = lent-room _ (orders-size (c .before))
