@@ -157,17 +157,17 @@ greatest-same test try worth price m same even =
     (seek-same (worthOrNone test worth) (worthOrNone try price) m (λ a l. when-same _ _ (test a) (try a) (same a l) (λ y. ap suc (even a l y))))
 
 module _ (chosen : List ℕ) where
-  -- a site that is not chosen yet passes, a chosen one fails, and nothing else passes
-  pub unchosen-yes : (a : ℕ) → 0 < a → has a chosen ≡ false → unchosen chosen a ≡ true
-  unchosen-yes a l e = and-both (ltb 0 a) (not (has a chosen)) (lt-ltb 0 a l) (ap not e)
-
-  pub unchosen-no : (a : ℕ) → has a chosen ≡ true → unchosen chosen a ≡ false
-  unchosen-no a e = and-not-right (ltb 0 a) (not (has a chosen)) (ap not e)
-
+  -- what passes is a site that is not chosen yet, a chosen one fails, and every site that is not chosen passes
   pub unchosen-only : (a : ℕ) → unchosen chosen a ≡ true → (0 < a) × (has a chosen ≡ false)
   unchosen-only a e =
       let (l, o) = and-eq-true-iff (ltb 0 a) (not (has a chosen)) .0 e in
       (ltb-true 0 a l, not-true (has a chosen) o)
+
+  pub unchosen-no : (a : ℕ) → has a chosen ≡ true → unchosen chosen a ≡ false
+  unchosen-no a e = and-not-right (ltb 0 a) (not (has a chosen)) (ap not e)
+
+  pub unchosen-yes : (a : ℕ) → 0 < a → has a chosen ≡ false → unchosen chosen a ≡ true
+  unchosen-yes a l e = and-both (ltb 0 a) (not (has a chosen)) (lt-ltb 0 a l) (ap not e)
 
   module _ (worth : ℕ → ℕ) where
     -- a scan of the sites starts from none

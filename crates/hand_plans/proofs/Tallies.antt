@@ -34,6 +34,10 @@ within-not-high x least most l h = rw (le-ltb x least l, lt-ltb most x h) refl
 pub within-both : (x least most : ℕ) → least ≤ x → x ≤ most → 1 ≡ one (between least most x)
 within-both x least most l h = rw (le-ltb x least l, le-ltb most x h) refl
 
+-- a site counts once at most
+pub one-most : (test : ℕ → Bool) (x streets : ℕ) → x ≡ one (test streets) → x ≤ 1
+one-most test x streets e = omega (arith, one-not (test streets))
+
 -- ---- the table
 -- no street is counted yet
 pub counted-none : Counted (replicate 256 0) []

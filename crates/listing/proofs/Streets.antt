@@ -2,14 +2,20 @@
 -- Assumes nothing.
 use mathlib.Core.Path.{_≡_, refl, sym, ap, subst, _∙_}
 use mathlib.Core.List.{List, [], _∷_, _++_}
-use Prim.Native.Nat.{ℕ, suc, _+_, _≤_}
+use Prim.Native.Nat.{ℕ, suc, _+_, _-_, _*_, _≤_}
 use native.Mathlib.Numerals.{add-one}
-use lib.ListN.{length}
+use lib.ListN.{length, take, drop}
 use Rattle.counting.specs.Lists.{at}
 use Rattle.counting.specs.Buffers.{joined, Written}
 use Rattle.survey.specs.Rows.{rowAt, placeOf}
+use Rattle.survey.proofs.RowLoops.{row-part}
 use Rattle.listing.specs.Listing.{spaced, line, streetWord, streetLine}
 use Rattle.listing.proofs.Rooms.{written-same}
+
+-- the place in the part of the rows that is lent is the place in the street's row
+pub place-part : (m : ℕ) (rows : List ℕ) (s site r : ℕ) → r ≡ placeOf (take (s * m + m - s * m) (drop (s * m) rows)) site
+    → r ≡ placeOf (rowAt m rows s) site
+place-part m rows s site r e = e ∙ ap (λ (row : List ℕ). placeOf row site) (row-part m rows s)
 
 -- three numbers, and the line that they make
 abbrev pub three : ℕ → ℕ → ℕ → List ℕ

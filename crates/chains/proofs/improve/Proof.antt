@@ -179,7 +179,7 @@ improve-less c =
     let m = c .before .before .before .before .before .before in
     let l = layer (back m) in
     let s = inner l .search in
-    let gain = ring-gains (l .deepen .ensures .0) (sited l) (back m .walk .ensures) (m .turn .ensures .0) (found m .if2 .taken) in
+    let gain = ring-gains (l .deepen .ensures .0) (sited l) (back m .walk .ensures) (m .turn .ensures .0) (omega (arith, found m .if2 .taken)) in
     nearer (values (origin l)) (outer (inner l) .improve .division) (s .division) (division m) (length (shares (origin l)))
     (length (origin l .args .division .now)) (s .inv .2 .problem .small) (s .inv .0) (turned-long m) gain
 

@@ -1,6 +1,6 @@
 -- `hand_plans::count_sites` meets its contract. Assumes nothing.
 use borrow.Author.Needs.{needs}
-use Rattle.hand_plans.proofs.Tallies.{sites-more}
+use Rattle.hand_plans.proofs.Tallies.{one-most, sites-more}
 use Rattle.hand_plans.specs.Counts.{between}
 use Rattle.counting.proofs.Sums.{sum-end}
 use Rattle.counting.specs.Lists.{at}
@@ -24,7 +24,7 @@ add-sites : tie.Need-add-sites Inv-loop μ-loop
 add-sites c =
     let l = c .before .before .before .loop in
     let p = c .before .before .before .before .args in
-    omega (arith, sites-more (between (p .least) (p .most)) (p .counts .now) (l .a) (l .sites) _ (l .inv .1) (l .inv .2) (c .one-within .ensures))
+    omega (arith, one-most (between (p .least) (p .most)) _ _ (c .one-within .ensures), l .inv .2)
 
 loop-again : tie.Need-loop-again Inv-loop μ-loop
 loop-again c =

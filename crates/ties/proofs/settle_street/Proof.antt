@@ -3,7 +3,6 @@ use borrow.Author.Needs.{needs}
 use mathlib.Core.Path.{_≡_, _∙_}
 use mathlib.Core.List.{List}
 use Prim.Native.Nat.{ℕ, _+_, _-_, _<_}
-use native.Mathlib.Numerals.{lt-of-le-of-ne}
 use native.Mathlib.Omega.{arith}
 use lib.ListN.{length}
 use Rattle.counting.specs.Lists.{at}
@@ -43,7 +42,7 @@ last : (i : tie.Else1) → let a = start (aimed i) .args in let n = at (lowered 
     (n - 1 + 1 ≡ n) × Later (a .division .now) (a .s) (n - 1) (aimed i .aim .result)
 last i =
     let e = aimed i .aim .ensures .0 in
-    last-street _ _ (lowered (aimed i)) (aimed i .aim .result) (e .left (lt-of-le-of-ne (e .within) (i .if1 .left)))
+    last-street _ _ (lowered (aimed i)) (aimed i .aim .result) (e .left (omega (arith, e .within, i .if1 .left)))
 
 -- once that street is tested, the limit is raised, or the far way is gone
 abbrev away : tie.After-tight → tie.Else1
