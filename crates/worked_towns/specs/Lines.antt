@@ -1,6 +1,7 @@
--- What a line of the table says, and when it holds of the definitions.
+-- What a line of the table says of the definitions: as equations, and as a test that is computed.
 -- Assumes nothing.
-use Prim.Native.Nat.{ℕ, _-_, _*_, _^_}
+use Prim.Native.Nat.{ℕ, suc, _-_, _*_, _^_, _≤_}
+use mathlib.Core.Path.{_≡_}
 use mathlib.Core.Bool.{Bool, true, false, _&&_}
 use mathlib.Core.List.{List, [], _∷_}
 use lib.Dec.{leb, eqb}
@@ -44,66 +45,101 @@ pub data Line : Type 0 where
   Read : List ℕ → ℕ → Line
   Write : SurveyInput → ℕ → ℕ → ℕ → Line
 
+-- what a line says is a list of facts: two numbers are equal, two lists are, or a number is at most another
+pub data Fact : Type 0 where
+  Number : ℕ → ℕ → Fact
+  Bytes : List ℕ → List ℕ → Fact
+  AtMost : ℕ → ℕ → Fact
+
+-- what the lent buffers hold before the call
+abbrev pub blank : ℕ → List ℕ
+blank n = replicate n 99
+
+-- a call's number, and the total that comes with it
+abbrev pub reported : ℕ → ℕ → ℕ → ℕ → List Fact → List Fact
+reported refusal number given total rest = Number refusal number ∷ Number (given when eqb refusal 0) total ∷ rest
+
+-- the places p from the round i on
+abbrev pub places : ℕ → ℕ → ℕ → List ℕ → List Fact
+places m k i [] = Number i k ∷ []
+places m k i (p ∷ rest) = Number (depth m k i) p ∷ places m k (suc i) rest
+
+abbrev pub facts : Line → List Fact
+facts (Check i x) = Number (checkRefusal i) x ∷ []
+facts (RowScore m scores row site x score) = reported (rowScoreRefusal (rowInputOf m scores row site)) x (scoreOf scores row site) score []
+facts (ListTotal i sites x total) = reported (listTotalRefusal (listInputOf (i .town) sites)) x (listTotal (i .town) sites) total []
+facts (FreeDivision i sites x total division) =
+    let old : List ℕ = blank (i .town .n) in
+    let r : ℕ = freeDivisionRefusal (divisionOf (i .town) sites old) in
+    reported r x (listTotal (i .town) sites) total (Bytes (after r (freeDivision (i .town) sites) old) division ∷ [])
+facts (BalancedDivision i sites x total division) =
+    let old : List ℕ = blank (i .town .n) in
+    let r : ℕ = balancedDivisionRefusal (divisionOf (i .town) sites old) in
+    let d : List ℕ = balancedDivision (i .town) sites in
+    reported r x (planTotal (i .town) d) total (Bytes (after r d old) division ∷ [])
+facts (FreePlan i x total division chosen) =
+    let r : ℕ = freePlanRefusal (planOf (i .town) (i .k) (blank (i .town .n)) (blank (i .k))) in
+    let sites : List ℕ = freeSites (i .town) (i .k) in
+    reported r x (listTotal (i .town) sites) total
+    (Bytes (after r (freeDivision (i .town) sites) (blank (i .town .n))) division ∷ Bytes (after r sites (blank (i .k))) chosen ∷ [])
+facts (BalancedPlan i x total division chosen) =
+    let r : ℕ = balancedPlanRefusal (planOf (i .town) (i .k) (blank (i .town .n)) (blank (i .k))) in
+    let sites : List ℕ = balancedSites (i .town) (i .k) in
+    let d : List ℕ = balancedDivision (i .town) sites in
+    reported r x (planTotal (i .town) d) total
+    (Bytes (after r d (blank (i .town .n))) division ∷ Bytes (after r sites (blank (i .k))) chosen ∷ [])
+facts (Rounds i total division) =
+    let d : List ℕ = balancedRounds (i .town) (i .k) .division in
+    Number (planTotal (i .town) d) total ∷ Bytes d division ∷ []
+facts (Floor i x total) = reported (floorRefusal i) x (planFloor (i .town) (i .k)) total []
+facts (Places m k list) = places m k 0 list
+facts (FreeHand i division claimed x) = Number (freeHandRefusal (handOf (i .town) (i .k) division claimed)) x ∷ []
+facts (BalancedHand i division claimed x) = Number (balancedHandRefusal (handOf (i .town) (i .k) division claimed)) x ∷ []
+facts (Bound i other missing reached) =
+    let k : ℕ = i .k in
+    let t : ℕ = listTotal (i .town) other in
+    let s : ℕ = listTotal (i .town) (freeSites (i .town) k) in
+    Number (t - s) missing ∷ Number t reached ∷ Number (length other) k ∷ AtMost (k ^ k * missing) ((k - 1) ^ k * reached) ∷ []
+facts (File i kind file) =
+    let read : Town = townIn file in
+    Bytes (encode (i .town) (i .k) kind) file ∷ Number (fileRefusal file) 0 ∷ Number (read .n) (i .town .n) ∷ Number (read .m) (i .town .m) ∷
+    Number (chosenIn file) (i .k) ∷ Number (kindIn file) kind ∷ Bytes (read .scores) (i .town .scores) ∷ Bytes (read .rows) (i .town .rows) ∷ []
+facts (Read file x) = Number (fileRefusal file) x ∷ []
+facts (Write i kind room x) = Number (writeRefusal (writeOf (i .town) (i .k) kind (blank room))) x ∷ []
+
+-- ---- what a line says, as equations
+abbrev pub Says : Fact → Type 0
+Says (Number x y) = x ≡ y
+Says (Bytes a b) = a ≡ b
+Says (AtMost x y) = x ≤ y
+
+abbrev pub AllSay : List Fact → Type 0
+AllSay [] = Unit {0}
+AllSay (fact ∷ rest) = Says fact × AllSay rest
+
+abbrev pub Holds : Line → Type 0
+Holds line = AllSay (facts line)
+
+abbrev pub AllHold : List Line → Type 0
+AllHold [] = Unit {0}
+AllHold (line ∷ lines) = Holds line × AllHold lines
+
+-- ---- and as a test that the checker computes, for all lines at once
 abbrev pub same : List ℕ → List ℕ → Bool
 same [] [] = true
 same [] (b ∷ other) = false
 same (a ∷ list) [] = false
 same (a ∷ list) (b ∷ other) = eqb a b && same list other
 
--- what the lent buffers hold before the call
-abbrev pub blank : ℕ → List ℕ
-blank n = replicate n 99
+abbrev pub test : Fact → Bool
+test (Number x y) = eqb x y
+test (Bytes a b) = same a b
+test (AtMost x y) = leb x y
 
--- a total that is reported
-abbrev pub reported : ℕ → ℕ → ℕ → ℕ → Bool
-reported refusal number given total = eqb refusal number && eqb (given when eqb refusal 0) total
+abbrev pub tests : List Fact → Bool
+tests [] = true
+tests (fact ∷ rest) = test fact && tests rest
 
-abbrev pub places : ℕ → ℕ → ℕ → List ℕ → Bool
-places m k i [] = eqb i k
-places m k i (p ∷ rest) = eqb (depth m k i) p && places m k (Prim.Native.Nat.suc i) rest
-
-abbrev pub holds : Line → Bool
-holds (Check i x) = eqb (checkRefusal i) x
-holds (RowScore m scores row site x score) = reported (rowScoreRefusal (rowInputOf m scores row site)) x (scoreOf scores row site) score
-holds (ListTotal i sites x total) = reported (listTotalRefusal (listInputOf (i .town) sites)) x (listTotal (i .town) sites) total
-holds (FreeDivision i sites x total division) =
-    let old : List ℕ = blank (i .town .n) in
-    let r : ℕ = freeDivisionRefusal (divisionOf (i .town) sites old) in
-    reported r x (listTotal (i .town) sites) total && same (after r (freeDivision (i .town) sites) old) division
-holds (BalancedDivision i sites x total division) =
-    let old : List ℕ = blank (i .town .n) in
-    let r : ℕ = balancedDivisionRefusal (divisionOf (i .town) sites old) in
-    let d : List ℕ = balancedDivision (i .town) sites in
-    reported r x (planTotal (i .town) d) total && same (after r d old) division
-holds (FreePlan i x total division chosen) =
-    let r : ℕ = freePlanRefusal (planOf (i .town) (i .k) (blank (i .town .n)) (blank (i .k))) in
-    let sites : List ℕ = freeSites (i .town) (i .k) in
-    reported r x (listTotal (i .town) sites) total && same (after r (freeDivision (i .town) sites) (blank (i .town .n))) division
-    && same (after r sites (blank (i .k))) chosen
-holds (BalancedPlan i x total division chosen) =
-    let r : ℕ = balancedPlanRefusal (planOf (i .town) (i .k) (blank (i .town .n)) (blank (i .k))) in
-    let sites : List ℕ = balancedSites (i .town) (i .k) in
-    let d : List ℕ = balancedDivision (i .town) sites in
-    reported r x (planTotal (i .town) d) total && same (after r d (blank (i .town .n))) division && same (after r sites (blank (i .k))) chosen
-holds (Rounds i total division) =
-    let d : List ℕ = balancedRounds (i .town) (i .k) .division in
-    eqb (planTotal (i .town) d) total && same d division
-holds (Floor i x total) = reported (floorRefusal i) x (planFloor (i .town) (i .k)) total
-holds (Places m k list) = places m k 0 list
-holds (FreeHand i division claimed x) = eqb (freeHandRefusal (handOf (i .town) (i .k) division claimed)) x
-holds (BalancedHand i division claimed x) = eqb (balancedHandRefusal (handOf (i .town) (i .k) division claimed)) x
-holds (Bound i other missing reached) =
-    let k : ℕ = i .k in
-    let t : ℕ = listTotal (i .town) other in
-    let s : ℕ = listTotal (i .town) (freeSites (i .town) k) in
-    eqb (t - s) missing && eqb t reached && eqb (length other) k && leb (k ^ k * missing) ((k - 1) ^ k * reached)
-holds (File i kind file) =
-    let read : Town = townIn file in
-    same (encode (i .town) (i .k) kind) file && eqb (fileRefusal file) 0 && eqb (read .n) (i .town .n) && eqb (read .m) (i .town .m)
-    && eqb (chosenIn file) (i .k) && eqb (kindIn file) kind && same (read .scores) (i .town .scores) && same (read .rows) (i .town .rows)
-holds (Read file x) = eqb (fileRefusal file) x
-holds (Write i kind room x) = eqb (writeRefusal (writeOf (i .town) (i .k) kind (blank room))) x
-
-abbrev pub allHold : List Line → Bool
-allHold [] = true
-allHold (line ∷ lines) = holds line && allHold lines
+abbrev pub testLines : List Line → Bool
+testLines [] = true
+testLines (line ∷ lines) = tests (facts line) && testLines lines
