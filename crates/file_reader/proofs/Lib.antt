@@ -3,3 +3,4 @@ pub mod Reading
 pub mod Walking
 pub mod Whole
 pub mod Carried
+pub mod ReaderCalls

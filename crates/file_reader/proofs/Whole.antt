@@ -1,4 +1,5 @@
--- Laws of a file as a whole: the answer of a check where the town, the scores, or the streets and the end are refused, and where nothing is.
+-- Laws of what is read from a record on: the answer where that record is refused, where it is read and what follows decides, and the bytes that are
+-- there behind it.
 -- Assumes nothing.
 use mathlib.Core.Path.{_≡_, refl, sym, ap, _∙_}
 use mathlib.Core.List.{List, [], _∷_}
@@ -6,117 +7,144 @@ use Prim.Native.Nat.{ℕ, zero, suc, _+_, _*_, _≤_}
 use native.Mathlib.Nat.{suc-ne-zero}
 use native.Mathlib.Omega.{arith}
 use lib.ListN.{length, drop, length-drop}
-use types.Run.{OneOf}
+use lib.Seq.{drop-drop}
+use types.Run.{OneOf, miss}
 use denote.Enum.Declared.{tagOf}
 use Rattle.counting.specs.Words.{_orElse_}
 use Rattle.counting.proofs.Refusals.{or-stop, or-pass, or-zero}
 use Rattle.survey_file.specs.Encode.{townMark, scoresMark}
-use Rattle.survey_file.specs.Decode.{markRefusal, townFields, scoresFields, streetsAndEnd, streetsIn, sitesIn, chosenIn, kindIn, scoresPart, fileRefusal}
+use Rattle.survey_file.specs.Decode.{markRefusal, townFields, scoresFields, sitesIn, fileRefusal}
 use Rattle.file_reader.specs.declared.records.Due.the-variants as due
 use Rattle.file_reader.specs.declared.records.Record.{Record}
 use Rattle.file_reader.specs.declared.records.Record.the-variants as got
 use Rattle.file_reader.specs.declared.Checked.{Checked}
 use Rattle.file_reader.specs.declared.Checked.the-variants.{Sizes, Refused}
 use Rattle.file_reader.specs.Answers.{markOf, recordRefusal, recordOf, numberOf}
-use Rattle.file_reader.specs.Checks.{checkedNumber, checkedUnless, checkedFile}
+use Rattle.file_reader.specs.Checks.{checkedNumber, checkedUnless, refusedBy, streetsChecked, scoresChecked, sizesIn, checkedFile}
 use Rattle.file_reader.proofs.Reading.{town-long, scores-long, number-is, some-refusal, no-refusal, town-parts}
 use Rattle.file_reader.proofs.records.Record as record-type
 
 -- ---- the answer that goes with a number
 -- a number that is not 0 is refused by it
-check-refused : (r x : ℕ) (sizes : Checked) → r ≡ x → (r ≡ 0 → ⊥) → Refused r ≡ checkedUnless x sizes
+pub check-refused : (r x : ℕ) (sizes : Checked) → r ≡ x → (r ≡ 0 → ⊥) → Refused r ≡ checkedUnless x sizes
 unfolding checkedUnless
 check-refused r zero sizes e some = absurd (some e)
 check-refused r (suc x) sizes e some = ap Refused e
 
 -- where the number is 0 the sizes are given
-check-accepted : (x : ℕ) (sizes : Checked) → 0 ≡ x → sizes ≡ checkedUnless x sizes
+pub check-accepted : (r x : ℕ) (sizes : Checked) → r ≡ x → r ≡ 0 → sizes ≡ checkedUnless x sizes
 unfolding checkedUnless
-check-accepted zero sizes e = refl
-check-accepted (suc x) sizes e = absurd (suc-ne-zero x (sym e))
+check-accepted r zero sizes e z = refl
+check-accepted r (suc x) sizes e z = absurd (suc-ne-zero x (sym e ∙ z))
 
--- the tries behind TN, where that gives n streets and m sites
-abbrev behind-town : List ℕ → ℕ → ℕ → ℕ
-behind-town file n m =
-    (markRefusal scoresMark (scoresPart file) orElse scoresFields m (scoresPart file)) orElse streetsAndEnd n m (drop (9 + 2 * m) file)
+-- the answer to a file has the number of its first refusal
+pub file-number : (file : List ℕ) → checkedNumber (checkedFile file) ≡ fileRefusal file
+unfolding checkedUnless
+file-number file = told (fileRefusal file)
+  where
+    told : (x : ℕ) → checkedNumber (checkedUnless x (sizesIn file)) ≡ x
+    told zero = refl
+    told (suc x) = refl
 
-module _ (file : List ℕ) where
-  -- what a check promises of its answer
-  abbrev Right : Checked → Type 0
-  Right answer = (checkedNumber answer ≡ fileRefusal file) × (answer ≡ checkedFile file)
+-- ---- the town, out of all bytes from its mark on
+-- an answer that is a town has its fields
+pub as-town : (answer : Record) → OneOf (0 ∷ []) (tagOf record-type.the-type answer)
+    → (n : ℕ) × (m : ℕ) × (k : ℕ) × (kind : ℕ) × (answer ≡ got.Town n m k kind)
+as-town (got.Town n m k kind) h = (n, m, k, kind, refl)
+as-town got.Scores h = absurd (miss (0 ∷ []) 1 tt h)
+as-town (got.Street size) h = absurd (miss (0 ∷ []) 2 tt h)
+as-town got.End h = absurd (miss (0 ∷ []) 3 tt h)
+as-town (got.Refused x) h = absurd (miss (0 ∷ []) 4 tt h)
 
-  -- a refusal by the file's number keeps the promise
-  stops : (r : ℕ) → r ≡ fileRefusal file → (r ≡ 0 → ⊥) → Right (Refused r)
-  stops r e some = (e, check-refused r (fileRefusal file) (Sizes (streetsIn file) (sitesIn file) (chosenIn file) (kindIn file)) e some)
-
-  -- ---- the town: an answer that is no town ends the check
-  pub town-stops : (r : ℕ) (answer : Record) → answer ≡ recordOf due.Town file
-      → OneOf (1 ∷ 2 ∷ 3 ∷ 4 ∷ []) (tagOf record-type.the-type answer) → r ≡ numberOf answer → Right (Refused r)
+module _ (rest : List ℕ) where
+  -- one that is no town ends the reading
+  pub town-stops : (answer : Record) → answer ≡ recordOf due.Town rest → OneOf (1 ∷ 2 ∷ 3 ∷ 4 ∷ []) (tagOf record-type.the-type answer)
+      → refusedBy answer ≡ checkedFile rest
   unfolding markOf fileRefusal
-  town-stops r answer is other e =
-      let number = number-is due.Town file answer is r e in
-      let some : r ≡ 0 → ⊥ = λ z. some-refusal due.Town file answer is (1 ∷ 2 ∷ 3 ∷ 4 ∷ []) other tt (sym number ∙ z) in
-      stops r (or-stop r (markRefusal townMark file orElse townFields file) _ number some) some
+  town-stops answer is other =
+      let number = number-is due.Town rest answer is (numberOf answer) refl in
+      let some : numberOf answer ≡ 0 → ⊥ = λ z. some-refusal due.Town rest answer is (1 ∷ 2 ∷ 3 ∷ 4 ∷ []) other tt (sym number ∙ z) in
+      check-refused (numberOf answer) (fileRefusal rest) (sizesIn rest)
+      (or-stop (numberOf answer) (markRefusal townMark rest orElse townFields rest) _ number some) some
 
-  module _ {n m k kind : ℕ} (town : got.Town n m k kind ≡ recordOf due.Town file) where
+  module _ {n m k kind : ℕ} (town : got.Town n m k kind ≡ recordOf due.Town rest) where
     -- a town that was read is not refused
-    quiet : recordRefusal due.Town file ≡ 0
-    quiet = no-refusal due.Town file (got.Town n m k kind) town tt .0
+    quiet : recordRefusal due.Town rest ≡ 0
+    quiet = no-refusal due.Town rest (got.Town n m k kind) town tt .0
 
-    -- its fields are those of the file
-    fields : (n ≡ streetsIn file) × (m ≡ sitesIn file) × (k ≡ chosenIn file) × (kind ≡ kindIn file)
-    fields = town-parts file n m k kind (no-refusal due.Town file (got.Town n m k kind) town tt .1)
-
-    -- behind a town that was read there is a place for the scores
-    pub town-there : 7 ≤ length file
+    -- behind it there is a place for the scores
+    pub town-there : 7 ≤ length rest
     unfolding markOf
-    town-there = town-long file _ refl (or-zero (markRefusal townMark file) (townFields file) quiet .1)
+    town-there = town-long rest _ refl (or-zero (markRefusal townMark rest) (townFields rest) quiet .1)
 
-    -- the scores, the streets and the end decide
-    past-town : (r : ℕ) → r ≡ behind-town file n m → r ≡ fileRefusal file
+    -- and what is read there decides
+    pub town-passes : scoresChecked n m k kind (drop 7 rest) ≡ checkedFile rest
     unfolding markOf fileRefusal
-    past-town r e =
-        or-pass r 0 (markRefusal townMark file orElse townFields file) _ (sym quiet) refl
-        (e ∙ ap (λ (x : ℕ). behind-town file x m) (fields .0) ∙ ap (λ (x : ℕ). behind-town file (streetsIn file) x) (fields .1))
+    town-passes =
+        let (streets, sites, chosen, of-kind) = town-parts rest n m k kind (no-refusal due.Town rest (got.Town n m k kind) town tt .1) in
+        let size : 7 + (2 + 2 * sitesIn rest) ≡ 9 + 2 * sitesIn rest = omega arith in
+        let next : drop (2 + 2 * sitesIn rest) (drop 7 rest) ≡ drop (9 + 2 * sitesIn rest) rest
+        = drop-drop (2 + 2 * sitesIn rest) 7 rest ∙ ap (λ (x : ℕ). drop x rest) size
+        in
+        let number = or-pass _ 0 (markRefusal townMark rest orElse townFields rest) _ (sym quiet) refl refl in
+        rw (streets, sites, chosen, of-kind, next) (ap (λ (x : ℕ). checkedUnless x (sizesIn rest)) number)
 
-    -- ---- the scores: an answer that is no table of scores ends the check
-    pub scores-stop : (r : ℕ) (answer : Record) → answer ≡ recordOf (due.Scores m) (drop 7 file)
-        → OneOf (0 ∷ 2 ∷ 3 ∷ 4 ∷ []) (tagOf record-type.the-type answer) → r ≡ numberOf answer → Right (Refused r)
+-- ---- the scores, out of all bytes from their mark on
+module _ (n m k kind : ℕ) (rest : List ℕ) where
+  -- an answer that is no table of scores ends the reading
+  pub scores-stop : (answer : Record) → answer ≡ recordOf (due.Scores m) rest → OneOf (0 ∷ 2 ∷ 3 ∷ 4 ∷ []) (tagOf record-type.the-type answer)
+      → refusedBy answer ≡ scoresChecked n m k kind rest
+  unfolding markOf
+  scores-stop answer is other =
+      let number = number-is (due.Scores m) rest answer is (numberOf answer) refl in
+      let some : numberOf answer ≡ 0 → ⊥ = λ z. some-refusal (due.Scores m) rest answer is (0 ∷ 2 ∷ 3 ∷ 4 ∷ []) other tt (sym number ∙ z) in
+      check-refused (numberOf answer) _ (Sizes n m k kind)
+      (or-stop (numberOf answer) (markRefusal scoresMark rest orElse scoresFields m rest) _ number some) some
+
+  module _ (scores : got.Scores ≡ recordOf (due.Scores m) rest) where
+    -- scores that were read are not refused
+    quiet-scores : recordRefusal (due.Scores m) rest ≡ 0
+    quiet-scores = no-refusal (due.Scores m) rest got.Scores scores tt .0
+
+    -- behind them there is a place for the streets
+    pub scores-there : 2 + 2 * m ≤ length rest
     unfolding markOf
-    scores-stop r answer is other e =
-        let number = number-is (due.Scores m) (drop 7 file) answer is r e in
-        let some : r ≡ 0 → ⊥ = λ z. some-refusal (due.Scores m) (drop 7 file) answer is (0 ∷ 2 ∷ 3 ∷ 4 ∷ []) other tt (sym number ∙ z) in
-        stops r (past-town r (or-stop r _ (streetsAndEnd n m (drop (9 + 2 * m) file)) number some)) some
+    scores-there = scores-long m rest _ refl (or-zero (markRefusal scoresMark rest) (scoresFields m rest) quiet-scores .1)
 
-    module _ (scores : got.Scores ≡ recordOf (due.Scores m) (drop 7 file)) where
-      -- scores that were read are not refused
-      quiet-scores : recordRefusal (due.Scores m) (drop 7 file) ≡ 0
-      quiet-scores = no-refusal (due.Scores m) (drop 7 file) got.Scores scores tt .0
+    -- and what is read there decides
+    pub scores-pass : streetsChecked n m k kind (drop (2 + 2 * m) rest) ≡ scoresChecked n m k kind rest
+    unfolding markOf
+    scores-pass =
+        ap (λ (x : ℕ). checkedUnless x (Sizes n m k kind))
+        (or-pass _ 0 (markRefusal scoresMark rest orElse scoresFields m rest) _ (sym quiet-scores) refl refl)
 
-      -- behind scores that were read there is a place for the streets
-      pub scores-there : 9 + 2 * m ≤ length file
-      unfolding markOf
-      scores-there =
-          let long = scores-long m (drop 7 file) _ refl (or-zero (markRefusal scoresMark (drop 7 file)) (scoresFields m (drop 7 file)) quiet-scores .1) in
-          omega (arith, long, length-drop 7 file)
+-- an answer that is a table of scores
+pub as-scores : (answer : Record) → OneOf (1 ∷ []) (tagOf record-type.the-type answer) → answer ≡ got.Scores
+as-scores (got.Town n m k kind) h = absurd (miss (1 ∷ []) 0 tt h)
+as-scores got.Scores h = refl
+as-scores (got.Street size) h = absurd (miss (1 ∷ []) 2 tt h)
+as-scores got.End h = absurd (miss (1 ∷ []) 3 tt h)
+as-scores (got.Refused x) h = absurd (miss (1 ∷ []) 4 tt h)
 
-      -- the streets and the end decide
-      past-scores : (r : ℕ) → r ≡ streetsAndEnd n m (drop (9 + 2 * m) file) → r ≡ fileRefusal file
-      unfolding markOf
-      past-scores r e = past-town r (or-pass r 0 _ (streetsAndEnd n m (drop (9 + 2 * m) file)) (sym quiet-scores) refl e)
+-- ---- the same where the count already read moves on
+module _ (file : List ℕ) (count : ℕ) (within : count ≤ length file) (n m k kind : ℕ) where
+  -- so many bytes that are there from the count on are within the file
+  on : (size : ℕ) → size ≤ length (drop count file) → count + size ≤ length file
+  on size there = omega (arith, there, length-drop count file)
 
-      -- ---- the streets and the end: they end the check
-      pub streets-stop : (r : ℕ) → r ≡ streetsAndEnd n m (drop (9 + 2 * m) file) → (r ≡ 0 → ⊥) → Right (Refused r)
-      streets-stop r e some = stops r (past-scores r e) some
+  -- past the town
+  pub past-town : got.Town n m k kind ≡ recordOf due.Town (drop count file)
+      → (count + 7 ≤ length file) × (scoresChecked n m k kind (drop (count + 7) file) ≡ checkedFile (drop count file))
+  past-town town = (
+    on 7 (town-there (drop count file) town),
+    ap (λ (rest : List ℕ). scoresChecked n m k kind rest) (sym (drop-drop 7 count file)) ∙ town-passes (drop count file) town,
+  )
 
-      -- or nothing is refused
-      pub nothing-refused : (r : ℕ) → r ≡ streetsAndEnd n m (drop (9 + 2 * m) file) → r ≡ 0 → Right (Sizes n m k kind)
-      nothing-refused r e z =
-          let number : 0 ≡ fileRefusal file = sym z ∙ past-scores r e in
-          let same : Sizes n m k kind ≡ Sizes (streetsIn file) (sitesIn file) (chosenIn file) (kindIn file)
-          = ap (λ (x : ℕ). Sizes x m k kind) (fields .0)
-          ∙ ap (λ (x : ℕ). Sizes (streetsIn file) x k kind) (fields .1)
-          ∙ ap (λ (x : ℕ). Sizes (streetsIn file) (sitesIn file) x kind) (fields .2)
-          ∙ ap (λ (x : ℕ). Sizes (streetsIn file) (sitesIn file) (chosenIn file) x) (fields .3)
-          in
-          (number, same ∙ check-accepted (fileRefusal file) (Sizes (streetsIn file) (sitesIn file) (chosenIn file) (kindIn file)) number)
+  -- past the scores
+  pub past-scores : got.Scores ≡ recordOf (due.Scores m) (drop count file)
+      → (count + (2 + 2 * m) ≤ length file)
+      × (streetsChecked n m k kind (drop (count + (2 + 2 * m)) file) ≡ scoresChecked n m k kind (drop count file))
+  past-scores scores = (
+    on (2 + 2 * m) (scores-there n m k kind (drop count file) scores),
+    ap (λ (rest : List ℕ). streetsChecked n m k kind rest) (sym (drop-drop (2 + 2 * m) count file)) ∙ scores-pass n m k kind (drop count file) scores,
+  )

@@ -1,5 +1,4 @@
 // Checks a survey file, record by record, before anything is filled from it.
-use crate::records::Record;
 ghost use mathlib.Core.Path.{_≡_};
 ghost use Rattle.survey_file.specs.Decode.{fileRefusal};
 ghost use Rattle.file_reader.specs.Checks.{checkedNumber, checkedFile};
@@ -21,27 +20,9 @@ pub enum Checked {
 
 // A whole file: its sizes, or the number of its first refusal.
 pub fn check(file: &[u8]) -> Checked
-    ensures number { λ r. ⌜ checkedNumber r ≡ fileRefusal (now (file .entry)) ⌝ }
-    ensures answer { λ r. ⌜ r ≡ checkedFile (now (file .entry)) ⌝ }
+    ensures { λ r. ⌜ (checkedNumber r ≡ fileRefusal (now (file .entry))) × (r ≡ checkedFile (now (file .entry))) ⌝ }
 {
-    let town = reader::town(file);
-    let Record::Town { n, m, k, kind } = town else {
-        return Checked::Refused(records::number_of(town));
-    };
-    let scores = reader::scores(file, m);
-    let Record::Scores = scores else {
-        return Checked::Refused(records::number_of(scores));
-    };
-    let x = reader::streets_and_end(file, n, m);
-    if x != 0 {
-        return Checked::Refused(x);
-    }
-    Checked::Sizes {
-        n,
-        m: m as usize,
-        k: k as usize,
-        kind: kind as usize,
-    }
+    reader::check_town(reader::new(file))
 }
 
 // The number of an answer, 0 where the sizes are given.

@@ -1,13 +1,15 @@
-// A reader carries the lent file together with the count already read. The functions over it are thin: each leaves the work to one that takes the
-// file and the count as they are.
+// A reader carries the lent file together with the count already read. One is made at a file's start, and moved past each record that is read. The
+// functions over it are thin: the work is left to those that take the file and the count as they are.
+use crate::Checked;
 use crate::records;
 use crate::records::Due;
 use crate::records::Record;
 ghost use mathlib.Core.Path.{_≡_};
-ghost use Prim.Native.Nat.{_+_, _*_, _≤_};
+ghost use Prim.Native.Nat.{_+_, _≤_};
 ghost use lib.ListN.{length, drop};
 ghost use Rattle.survey_file.specs.Decode.{streetsAndEnd};
 ghost use Rattle.file_reader.specs.Answers.{recordOf};
+ghost use Rattle.file_reader.specs.Checks.{refusedBy, streetsChecked, scoresChecked, checkedFile};
 
 // The lent file, and how many of its bytes are read.
 pub struct Reader<'a> {
@@ -41,6 +43,13 @@ pub fn next<'a>(r: Reader<'a>, due: Due) -> Record
     records::record_at(r.file, r.count, due)
 }
 
+// A record that is not the one due ends the reading with its number.
+pub fn refused_by(answer: Record) -> Checked
+    ensures { λ r. ⌜ r ≡ refusedBy answer ⌝ }
+{
+    Checked::Refused(records::number_of(answer))
+}
+
 // The n street records from an index on, and the end behind them.
 fn streets_refusal(file: &[u8], from: usize, n: usize, m: u8) -> u8
     requires { ⌜ from ≤ length (now file) ⌝ }
@@ -57,33 +66,51 @@ fn streets_refusal(file: &[u8], from: usize, n: usize, m: u8) -> u8
     records::number_of(records::record_at(file, at, Due::End))
 }
 
-// The n street records from where the reader stands, and the end behind them.
-pub fn streets<'a>(r: Reader<'a>, n: usize, m: u8) -> u8
+// The same with the answer to the whole file, where its town has these sizes and its scores are read.
+fn streets_checked(file: &[u8], from: usize, n: usize, m: u8, k: u8, kind: u8) -> Checked
+    requires { ⌜ from ≤ length (now file) ⌝ }
+    ensures { λ r. ⌜ r ≡ streetsChecked n m k kind (drop from (now (file .entry))) ⌝ }
+{
+    let x = streets_refusal(file, from, n, m);
+    if x != 0 {
+        return Checked::Refused(x);
+    }
+    Checked::Sizes {
+        n,
+        m: m as usize,
+        k: k as usize,
+        kind: kind as usize,
+    }
+}
+
+// The streets and the end, from where the reader stands.
+pub fn check_streets<'a>(r: Reader<'a>, n: usize, m: u8, k: u8, kind: u8) -> Checked
     requires { ⌜ r .count ≤ length (now (r .file)) ⌝ }
-    ensures { λ x. ⌜ x ≡ streetsAndEnd n m (drop (r .entry .count) (now (r .entry .file))) ⌝ }
+    ensures { λ x. ⌜ x ≡ streetsChecked n m k kind (drop (r .entry .count) (now (r .entry .file))) ⌝ }
 {
-    streets_refusal(r.file, r.count, n, m)
+    streets_checked(r.file, r.count, n, m, k, kind)
 }
 
-// The town, at the start of a file.
-pub fn town(file: &[u8]) -> Record
-    ensures { λ x. ⌜ x ≡ recordOf Due.Town (now (file .entry)) ⌝ }
+// The scores from where the reader stands, and all behind them.
+pub fn check_scores<'a>(r: Reader<'a>, n: usize, m: u8, k: u8, kind: u8) -> Checked
+    requires { ⌜ r .count ≤ length (now (r .file)) ⌝ }
+    ensures { λ x. ⌜ x ≡ scoresChecked n m k kind (drop (r .entry .count) (now (r .entry .file))) ⌝ }
 {
-    next(new(file), Due::Town)
+    let scores = next(r, Due::Scores { m });
+    let Record::Scores = scores else {
+        return refused_by(scores);
+    };
+    check_streets(past(r, 2 + 2 * (m as usize)), n, m, k, kind)
 }
 
-// The scores, past the town.
-pub fn scores(file: &[u8], m: u8) -> Record
-    requires { ⌜ 7 ≤ length (now file) ⌝ }
-    ensures { λ x. ⌜ x ≡ recordOf (Due.Scores m) (drop 7 (now (file .entry))) ⌝ }
+// The town from where the reader stands, and all behind it.
+pub fn check_town<'a>(r: Reader<'a>) -> Checked
+    requires { ⌜ r .count ≤ length (now (r .file)) ⌝ }
+    ensures { λ x. ⌜ x ≡ checkedFile (drop (r .entry .count) (now (r .entry .file))) ⌝ }
 {
-    next(past(new(file), 7), Due::Scores { m })
-}
-
-// The streets and the end, past the town and the m scores.
-pub fn streets_and_end(file: &[u8], n: usize, m: u8) -> u8
-    requires { ⌜ 9 + 2 * m ≤ length (now file) ⌝ }
-    ensures { λ x. ⌜ x ≡ streetsAndEnd n m (drop (9 + 2 * m) (now (file .entry))) ⌝ }
-{
-    streets(past(past(new(file), 7), 2 + 2 * (m as usize)), n, m)
+    let town = next(r, Due::Town);
+    let Record::Town { n, m, k, kind } = town else {
+        return refused_by(town);
+    };
+    check_scores(past(r, 7), n, m, k, kind)
 }

@@ -1,1 +1,2 @@
 pub mod WriteTries
+pub mod SizesGiven

@@ -1,4 +1,5 @@
 // What the calls on files turn down: the number that its definition gives, and 0 where the call is accepted.
+use file_reader::Checked;
 use survey::Survey;
 use survey::check;
 ghost use mathlib.Core.Path.{_≡_};
@@ -6,7 +7,8 @@ ghost use lib.Dec.{ltb};
 ghost use Rattle.counting.specs.Words.{_when_};
 ghost use Rattle.survey.specs.Refusals.{kindRefusal};
 ghost use Rattle.refusals.specs.Inputs.{writeLent, readLent};
-ghost use Rattle.refusals.specs.Refusals.{Tried, writeRefusal, readRefusal};
+ghost use Rattle.refusals.specs.Refusals.{Tried, writeRefusal};
+ghost use Rattle.file_refusals.specs.ReadSizes.{SizesTried};
 
 // 4: a kind that is neither free nor balanced.
 fn kind_refusal(kind: usize) -> u8
@@ -47,15 +49,15 @@ pub fn write_refusal(
     room_refusal(file.len(), file_writer::file_length(n, m, rows))
 }
 
-// Reading a file into its two buffers.
-pub fn read_refusal(file: &[u8], rows: &[u8], scores: &[u16]) -> u8
-    ensures { λ r. ⌜ Tried readRefusal (readLent file rows scores) r ⌝ }
+// Reading a file into its two buffers: the sizes that its town's record gives, or the number of the first refusal.
+pub fn read_sizes(file: &[u8], rows: &[u8], scores: &[u16]) -> Checked
+    ensures { λ r. ⌜ SizesTried (readLent file rows scores) r ⌝ }
 {
     if rows.len() != Survey::ROWS {
-        return 6;
+        return Checked::Refused(6);
     }
     if scores.len() != Survey::SITES {
-        return 6;
+        return Checked::Refused(6);
     }
-    file_reader::number_of(file_reader::check(file))
+    file_reader::check(file)
 }

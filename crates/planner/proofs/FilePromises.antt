@@ -1,11 +1,9 @@
 -- The file calls' promises, from what the tries and the engine gave: what is written is read back, and what is read is written back.
 -- Assumes nothing.
-use mathlib.Core.Path.{_≡_, refl, sym, ap, _∙_}
+use mathlib.Core.Path.{_≡_, refl}
 use mathlib.Core.Bool.{false≢true}
 use mathlib.Core.List.{List}
-use Prim.Native.Nat.{ℕ, zero, suc, _≤_, _<_}
-use native.Mathlib.Omega.{arith}
-use native.Mathlib.Nat.{suc-ne-zero}
+use Prim.Native.Nat.{ℕ, _≤_, _<_}
 use lib.Dec.{ltb, lit<}
 use lib.ListN.{length, take}
 use lib.Seq.{take-at}
@@ -19,21 +17,21 @@ use Rattle.survey.specs.Refusals.{kindRefusal, lengthRefusal, surveyRefusal}
 use Rattle.survey.specs.Accepted.{Accepted}
 use Rattle.survey.proofs.Sound.{accepted, chosen-within, own-accepted}
 use Rattle.survey_file.specs.Encode.{mostFile, encode}
-use Rattle.survey_file.specs.Decode.{streetsIn, sitesIn, chosenIn, kindIn, fileRefusal}
+use Rattle.survey_file.specs.Decode.{streetsIn, sitesIn, fileRefusal}
 use Rattle.survey_file.specs.FileBuffers.{rowsRead, scoresRead, fileWritten}
 use Rattle.survey_file.proofs.ReadBack.{decode-encode}
 use Rattle.survey_file.proofs.WrittenBack.{encode-decode, decode-accepted}
 use Rattle.survey_file.proofs.Lengths.{encode-most}
-use Rattle.file_filling.proofs.FilledFronts.{sizes}
+use Rattle.file_refusals.proofs.SizesGiven.{GivenSizes}
 use Rattle.refusals.specs.Inputs.{WriteInput, ReadInput}
 use Rattle.refusals.specs.Refusals.{Tried, writeRefusal, readRefusal}
 use Rattle.refusals.proofs.Listed.{passed}
 use Rattle.planner.specs.declared.Answer.the-variants as answer
 use Rattle.planner.specs.declared.Read.the-variants as read
-use Rattle.planner.specs.Answers.{readAnswer}
 use Rattle.planner.specs.Good.{ReadsBack}
 use Rattle.planner.specs.Calls.{FileWritten, FileRead}
 use Rattle.planner.proofs.Answers.{told-refused, told-total, kept-refused, new-accepted}
+use Rattle.planner.proofs.ReadAnswers.{told-refusal, told-survey}
 
 -- ---- writing
 module _ {i : WriteInput} {x : ℕ} (tried : Tried writeRefusal i x) where
@@ -79,46 +77,40 @@ module _ {i : WriteInput} {x : ℕ} (tried : Tried writeRefusal i x) where
     write-given size bytes = record { answer = told-total tried z size; bytes = new-accepted tried z _ _ bytes; back = λ y. rw (bytes, size) back }
 
 -- ---- reading
--- the reader's answer where the file is refused, and where it is not
-read-refused : (r x : ℕ) (file : List ℕ) → r ≡ x → (r ≡ 0 → ⊥) → read.Refused r ≡ readAnswer x file
-read-refused r zero file e h = absurd (h e)
-read-refused r (suc x) file e h = ap (λ (y : ℕ). read.Refused y) e
-
-read-accepted : (r x : ℕ) (file : List ℕ) (n m k kind : ℕ) → r ≡ x → r ≡ 0 → n ≡ streetsIn file → m ≡ sitesIn file → k ≡ chosenIn file
-    → kind ≡ kindIn file → read.Survey n m k kind ≡ readAnswer x file
-read-accepted r zero file n m k kind e z a b c d = rw (a, b, c, d) refl
-read-accepted r (suc x) file n m k kind e z a b c d = absurd (suc-ne-zero x (sym e ∙ z))
-
 module _ {i : ReadInput} {x : ℕ} (tried : Tried readRefusal i x) where
   pub file-refused : (x ≡ 0 → ⊥) → FileRead i (i .rows) (i .scores) (read.Refused x)
   file-refused h =
       record {
-        answer = read-refused x (readRefusal i) (i .file) (tried .first) h;
+        answer = told-refusal tried h;
         row-bytes = kept-refused tried h _ _;
         score-numbers = kept-refused tried h _ _;
-        back = λ z. absurd (h (tried .first ∙ z));
+        back = λ y. absurd (false≢true y);
       }
 
-  module _ (z : x ≡ 0) where
-    -- a call that is not refused has buffers of the right lengths and a file that is not refused
-    pub read-parts : (fileRefusal (i .file) ≡ 0) × (length (i .rows) ≡ mostRows) × (length (i .scores) ≡ mostSites)
-    read-parts =
-        let (first, rest) = or-zero (lengthRefusal (length (i .rows)) mostRows) _ (passed tried z) in
-        let (second, third) = or-zero (lengthRefusal (length (i .scores)) mostSites) (fileRefusal (i .file)) rest in
-        (third, exact 6 (length (i .rows)) mostRows (lit< tt) first, exact 6 (length (i .scores)) mostSites (lit< tt) second)
+module _ {i : ReadInput} {n m k kind : ℕ} (given : GivenSizes i n m k kind) where
+  -- the number that the tries gave
+  accepted-call : Tried readRefusal i (readRefusal i)
+  accepted-call = record { first = refl }
 
-    -- the town's fields are there
-    pub read-room : 9 ≤ length (i .file)
-    read-room = omega (arith, sizes (i .file) (read-parts .0) .2)
+  -- a call that is not refused has buffers of the right lengths and a file that is not refused
+  parts : (fileRefusal (i .file) ≡ 0) × (length (i .rows) ≡ mostRows) × (length (i .scores) ≡ mostSites)
+  parts =
+      let (first, rest) = or-zero (lengthRefusal (length (i .rows)) mostRows) _ (given .quiet) in
+      let (second, third) = or-zero (lengthRefusal (length (i .scores)) mostSites) (fileRefusal (i .file)) rest in
+      (third, exact 6 (length (i .rows)) mostRows (lit< tt) first, exact 6 (length (i .scores)) mostSites (lit< tt) second)
 
-    -- a file that is not refused was written from what is read of it
-    pub file-given : ((j : ℕ) → at (i .file) j < 256) → {rows scores : List ℕ} {n m k kind : ℕ} → n ≡ streetsIn (i .file) → m ≡ sitesIn (i .file)
-        → k ≡ chosenIn (i .file) → kind ≡ kindIn (i .file) → rows ≡ rowsRead (i .file) (i .rows) → scores ≡ scoresRead (i .file) (i .scores)
-        → FileRead i rows scores (read.Survey n m k kind)
-    file-given bytes a b c d rows scores =
-        record {
-          answer = read-accepted x (readRefusal i) (i .file) _ _ _ _ (tried .first) z a b c d;
-          row-bytes = new-accepted tried z _ _ rows;
-          score-numbers = new-accepted tried z _ _ scores;
-          back = λ _. record { accepted = decode-accepted (i .file) (read-parts .0); written-back = encode-decode (i .file) (read-parts .0) bytes };
-        }
+  -- what filling asks for
+  pub fill-ready : (fileRefusal (i .file) ≡ 0) × (n ≡ streetsIn (i .file)) × (m ≡ sitesIn (i .file)) × (length (i .rows) ≡ mostRows)
+      × (length (i .scores) ≡ mostSites)
+  fill-ready = (parts .0, given .streets, given .sites, parts .1, parts .2)
+
+  -- a file that is not refused was written from what is read of it
+  pub file-given : ((j : ℕ) → at (i .file) j < 256) → {rows scores : List ℕ} → rows ≡ rowsRead (i .file) (i .rows)
+      → scores ≡ scoresRead (i .file) (i .scores) → FileRead i rows scores (read.Survey n m k kind)
+  file-given bytes rows scores =
+      record {
+        answer = told-survey given;
+        row-bytes = new-accepted accepted-call (given .quiet) _ _ rows;
+        score-numbers = new-accepted accepted-call (given .quiet) _ _ scores;
+        back = λ _. record { accepted = decode-accepted (i .file) (parts .0); written-back = encode-decode (i .file) (parts .0) bytes };
+      }

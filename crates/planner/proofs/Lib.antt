@@ -1,4 +1,5 @@
 pub mod Answers
+pub mod ReadAnswers
 pub mod OwnTests
 pub mod FreePromises
 pub mod BalancedPromises

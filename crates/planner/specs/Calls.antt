@@ -5,6 +5,7 @@ use Prim.Native.Nat.{ℕ}
 use mathlib.Core.Path.{_≡_}
 use mathlib.Core.Bool.{true}
 use mathlib.Core.List.{List}
+use denote.Ref.{RefT}
 use lib.ListN.{length}
 use Rattle.counting.specs.Buffers.{after}
 use Rattle.survey.specs.Rows.{rankedPart, scoreOf}
@@ -17,7 +18,7 @@ use Rattle.refusals.specs.Refusals.{balancedPlanRefusal, floorRefusal, freeHand
 use Rattle.planner.specs.declared.Checked.{Checked}
 use Rattle.planner.specs.declared.Answer.{Answer}
 use Rattle.planner.specs.declared.Read.{Read}
-use Rattle.planner.specs.Answers.{Answered, Told, accepts, total, readAnswer}
+use Rattle.planner.specs.Answers.{Answered, Told, ReadTold, accepts, total, readAccepts}
 use Rattle.planner.specs.Good.{GoodFree, BestDivision, GoodBalanced, ReadsBack, WritesBack}
 
 -- checking a survey
@@ -68,10 +69,12 @@ pub record RowScored (i : RowInput) (r : Answer) : Type 0 where
   -- the first number that applies, or the score
   pub answer : Told r (rowScoreRefusal i) (scoreOf (i .scores) (i .row) (i .site))
 
--- the ranked part of a row
-pub record RankedPart (row part : List ℕ) : Type 0 where
+-- the ranked part of a row, as a stretch of the caller's own bytes
+pub record RankedPart (row part : RefT (List ℕ)) : Type 0 where
   -- all that stands before the first zero
-  pub bytes : part ≡ rankedPart row
+  pub bytes : part .now ≡ rankedPart (row .now)
+  -- and it stands where the row begins: no copy, and no other stretch of the same bytes
+  pub place : part .ptr ≡ row .ptr
 
 -- total of a list of sites
 pub record ListTotalled (i : ListInput) (r : Answer) : Type 0 where
@@ -105,10 +108,10 @@ pub record FileWritten (i : WriteInput) (file : List ℕ) (r : Answer) : Type 0 
 -- survey file reader; `rows` and `scores` are what the two buffers hold afterwards
 pub record FileRead (i : ReadInput) (rows scores : List ℕ) (r : Read) : Type 0 where
   -- the first number that applies, or the sizes and the kind
-  pub answer : r ≡ readAnswer (readRefusal i) (i .file)
+  pub answer : ReadTold r (readRefusal i) (i .file)
   -- the first n times m bytes are the rows, and later ones stay
   pub row-bytes : rows ≡ after (readRefusal i) (rowsRead (i .file) (i .rows)) (i .rows)
   -- the first m numbers are the scores, and later ones stay
   pub score-numbers : scores ≡ after (readRefusal i) (scoresRead (i .file) (i .scores)) (i .scores)
   -- what was read is an accepted survey, and writing it gives back the file
-  pub back : readRefusal i ≡ 0 → WritesBack (i .file)
+  pub back : readAccepts r ≡ true → WritesBack (i .file)

@@ -1,7 +1,6 @@
 // The library: every entry that a caller may call. Each checks its own input, on any input whatever, and answers with its result or with
 // one of document 01's numbers; a refusal leaves the caller's buffers as they were. What a call promises is one record of specs/Calls.
-use file_reader::fields;
-ghost use Rattle.survey.specs.Town.{was, is};
+ghost use Rattle.survey.specs.Town.{is};
 ghost use Rattle.refusals.specs.Inputs.{surveyLent, rowLent, listLent, divisionLent, planLent, handLent, writeLent, readLent};
 ghost use Rattle.planner.specs.Calls.{SurveyChecked, FreePlanned, BalancedPlanned, FreeDivided, BalancedDivided, RowScored, RankedPart};
 ghost use Rattle.planner.specs.Calls.{ListTotalled, FloorGiven, FreeHandTested, BalancedHandTested, FileWritten, FileRead};
@@ -42,7 +41,7 @@ pub fn check_survey(n: usize, m: usize, k: usize, scores: &[u16], rows: &[u8]) -
 
 // The ranked part of a row, as the leading part of the caller's own slice. Refuses nothing.
 pub fn ranked_part(row: &[u8]) -> &[u8]
-    ensures { λ r. ⌜ RankedPart (was row) (now r) ⌝ }
+    ensures { λ r. ⌜ RankedPart (row .entry) r ⌝ }
 {
     survey::rows::ranked(row)
 }
@@ -223,17 +222,10 @@ pub fn write_file(
 pub fn read_file(file: &[u8], rows: &mut [u8], scores: &mut [u16]) -> Read
     ensures { λ r. ⌜ FileRead (readLent file rows scores) (is rows) (is scores) r ⌝ }
 {
-    let x = file_refusals::read_refusal(file, rows, scores);
-    if x != 0 {
-        return Read::Refused(x);
-    }
-    let n = fields::word_at(file, 2);
-    let m = file[4] as usize;
+    let found = file_refusals::read_sizes(file, rows, scores);
+    let file_reader::Checked::Sizes { n, m, k, kind } = found else {
+        return Read::Refused(file_reader::number_of(found));
+    };
     file_filling::fill(file, n, m, rows, scores);
-    Read::Survey {
-        n,
-        m,
-        k: file[5] as usize,
-        kind: file[6] as usize,
-    }
+    Read::Survey { n, m, k, kind }
 }

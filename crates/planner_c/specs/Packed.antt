@@ -4,6 +4,7 @@ use Prim.Native.Nat.{ℕ, zero, suc, _*_}
 use mathlib.Core.Path.{_≡_}
 use mathlib.Core.List.{List}
 use denote.Ref.{RefT}
+use lib.ListN.{length}
 use denote.Triple.Both.{Both}
 use Rattle.survey.specs.Town.{is}
 use Rattle.survey_file.specs.Decode.{streetsIn, sitesIn, chosenIn, kindIn}
@@ -11,10 +12,8 @@ use Rattle.refusals.specs.Inputs.{ReadInput}
 use Rattle.refusals.specs.Refusals.{readRefusal}
 use Rattle.planner.specs.declared.Checked.{Checked}
 use Rattle.planner.specs.declared.Answer.{Answer}
-use Rattle.planner.specs.declared.Read.{Read}
-use Rattle.planner.specs.declared.Read.the-variants as read
-use Rattle.planner.specs.Answers.{checkedNumber, number, total}
-use Rattle.planner.specs.Calls.{FileRead}
+use Rattle.planner.specs.Answers.{checkedNumber, number, total, readNumber}
+use Rattle.planner.specs.Calls.{RankedPart, FileRead}
 
 -- an answer as one 64-bit number: the total where nothing is refused, else the refusal's number in the upper half and 0 in the lower
 abbrev pub packed : ℕ → ℕ → ℕ
@@ -34,12 +33,14 @@ PacksChecked = Packs checkedNumber (λ r. 0)
 abbrev pub PacksAnswer : (Answer → Type 0) → ℕ → Type 0
 PacksAnswer = Packs number total
 
--- ---- the reader
--- the number of its answer
-abbrev pub readNumber : Read → ℕ
-readNumber (read.Survey n m k kind) = 0
-readNumber (read.Refused x) = x
+-- ---- the ranked part
+-- the length of the part that the call gives back; since this stands where the row begins, the length says which bytes it is
+pub record PartLength (row : RefT (List ℕ)) (r : ℕ) : Type 0 where
+  pub part : RefT (List ℕ)
+  pub holds : RankedPart row part
+  pub is : r ≡ length (part .now)
 
+-- ---- the reader
 -- the four numbers that it is lent for a file's sizes and kind
 pub record Sizes : Type 0 where
   pub n : ℕ

@@ -4,14 +4,12 @@ use planner::Answer;
 use planner::Checked;
 use planner::Read;
 ghost use mathlib.Core.Path.{_≡_};
-ghost use lib.ListN.{length};
-ghost use Rattle.survey.specs.Town.{was, is};
-ghost use Rattle.survey.specs.Rows.{rankedPart};
+ghost use Rattle.survey.specs.Town.{is};
 ghost use Rattle.refusals.specs.Inputs.{surveyLent, rowLent, listLent, divisionLent, planLent, handLent, writeLent, readLent};
 ghost use Rattle.planner.specs.Answers.{checkedNumber, number, total};
 ghost use Rattle.planner.specs.Calls.{SurveyChecked, FreePlanned, BalancedPlanned, FreeDivided, BalancedDivided, RowScored};
 ghost use Rattle.planner.specs.Calls.{ListTotalled, FloorGiven, FreeHandTested, BalancedHandTested, FileWritten};
-ghost use Rattle.planner_c.specs.Packed.{packed, PacksChecked, PacksAnswer, sizesWere, sizesAre, FileReadInto};
+ghost use Rattle.planner_c.specs.Packed.{packed, PacksChecked, PacksAnswer, PartLength, sizesWere, sizesAre, FileReadInto};
 
 // A refusal as one number: its own in the upper half.
 fn packed_refusal(x: u8) -> u64
@@ -57,7 +55,7 @@ pub extern "C" fn planner_check_survey(
 // The length of the ranked part of a row; its bytes are the caller's own. Refuses nothing.
 #[no_mangle]
 pub extern "C" fn planner_ranked_part(row: &[u8]) -> usize
-    ensures { λ r. ⌜ r ≡ length (rankedPart (was row)) ⌝ }
+    ensures { λ r. ⌜ PartLength (row .entry) r ⌝ }
 {
     planner::ranked_part(row).len()
 }

@@ -27,6 +27,8 @@ impl Survey {
     pub const TOP_SCORE: u16 = 1000;
     // the bytes of the longest rows
     pub const ROWS: usize = Survey::STREETS * Survey::SITES;
+    // the bytes of the longest file: the town, a score for each site, a record with a full list for each street, and the end
+    pub const FILE: usize = 7 + (2 + 2 * Survey::SITES) + Survey::STREETS * (5 + Survey::SITES) + 2;
 
     // The first, empty state: no street, no site, and nothing ranked.
     pub fn empty() -> Self

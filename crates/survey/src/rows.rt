@@ -2,9 +2,10 @@
 ghost use mathlib.Core.Path.{_≡_};
 ghost use Rattle.survey.specs.Rows.{rankedPart, placeIn, placeOf, scoreAt, scoreOf};
 
-// The ranked part of a row: the leading part of the caller's own slice, up to the first zero.
+// The ranked part of a row: the leading part of the caller's own slice, up to the first zero. It begins where the row begins, so it is no copy.
 pub fn ranked(row: &[u8]) -> &[u8]
-    ensures { λ r. ⌜ now r ≡ rankedPart (now (row .entry)) ⌝ }
+    ensures bytes { λ r. ⌜ now r ≡ rankedPart (now (row .entry)) ⌝ }
+    ensures place { λ r. ⌜ r .ptr ≡ row .entry .ptr ⌝ }
 {
     for i in 0..row.len() {
         if row[i] == 0 {

@@ -10,7 +10,7 @@ use Rattle.floors.proofs.list_length.Tie as tie
 returns : tie.Need-returns
 returns c =
     let a = c .before .before .before .args in
-    ap length (c .ranked .ensures ∙ ap rankedPart (row-part (a .m) (a .rows .now) (a .s)))
+    ap length (c .ranked .ensures .0 ∙ ap rankedPart (row-part (a .m) (a .rows .now) (a .s)))
 
 pub list-length-spec : {M : Type 1} → statement M
 list-length-spec =

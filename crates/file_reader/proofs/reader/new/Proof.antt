@@ -36,7 +36,8 @@ use denote.Triple.Walked.{says, Stays, stay-none-slice, walkOf, goes-none-slice,
 use denote.Exit.{yes}
 use Rattle.file_reader.proofs.reader.Reader as T
 use Rattle.file_reader.proofs.reader.Reader.Laws as T′
-use Rattle.file_reader.proofs.Carried.{lent, start, FileOwns, Token}
+use Rattle.file_reader.proofs.Carried.{lent, start, FileOwns}
+use Rattle.file_reader.proofs.ReaderCalls.{Token}
 use Rattle.file_reader.proofs.reader.new.Key.{name as #file-reader·reader·new}
 use Rattle.file_reader.proofs.reader.new as new
 use Rattle.file_reader.proofs.reader.new.Statement as stated

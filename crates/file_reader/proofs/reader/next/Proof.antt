@@ -48,7 +48,8 @@ use Rattle.file_reader.proofs.records.Due as D
 use Rattle.file_reader.proofs.records.Due.Laws as D′
 use Rattle.file_reader.proofs.records.Record as S
 use Rattle.file_reader.proofs.records.Record.Laws as S′
-use Rattle.file_reader.proofs.Carried.{B, lent, asked, found, FileOwns, ReaderOwns, file-of, Token, gives, calls}
+use Rattle.file_reader.proofs.Carried.{B, lent, asked, found, FileOwns, ReaderOwns, file-of}
+use Rattle.file_reader.proofs.ReaderCalls.{Token, gives, calls}
 use Rattle.file_reader.proofs.records.record_at as record-at
 use Rattle.file_reader.proofs.records.record_at.Symbol as record-at-def
 use Rattle.file_reader.proofs.records.record_at.Symbol.{name as #file-reader·records·record-at}
@@ -93,7 +94,7 @@ module _ {M : Type 1} (𝓤 : URA M) (H : Heap 𝓤) (A : Atoms 𝓤) (W : Given
       frame ! $ done !
 
   answers : (u : Val) → ent 𝓤 (RecordAt 𝓤 H A mem run .post to u) (mean 𝓤 H A (later (‵ (S.the-row .own (found d due) (u ∷ [])) ⊛ Token κ q)))
-  answers u = gives W κ q S.the-row (found d due) u (ensured 𝓤 H A record-at.ended (record-at.clauses 𝓤 H A mem run) (κ, tt)
+  answers u = gives W (Token κ q) S.the-row (found d due) u (ensured 𝓤 H A record-at.ended (record-at.clauses 𝓤 H A mem run) (κ, tt)
       (d .file, (d .count, (due, tt))) tt) (λ x. x ≡ found d due)
       (λ x. exE 𝓤 _ (λ ws. snd∗ 𝓤 (sem 𝓤 H A (lasts record-at.ended (κ, tt) (d .file, (d .count, (due, tt))) ws)) (fact 𝓤 (x ≡ found d due)))) (λ x e. e)
 
@@ -121,7 +122,7 @@ module _ {M : Type 1} (𝓤 : URA M) (H : Heap 𝓤) (A : Atoms 𝓤) (W : Given
         move ! (11 ∷ []) $ fsplit ! $ move ! (1 ∷ []) $ drop ! $ use1 W (‵ (FileOwns κ (d .file)) ⊛ ‵ Own) (file-of 𝓤 H A W κ d) $ split ! $
         move ! (0 ∷ 12 ∷ []) $
         -- [what file owns; the token; what the reader owns; _4; …]
-        calls κ q ! fm (RecordAt 𝓤 H A mem run) known to (FileOwns κ (d .file)) S.the-row (found d due) asks answers
+        calls (Token κ q) ! fm (RecordAt 𝓤 H A mem run) known to (FileOwns κ (d .file)) S.the-row (found d due) asks answers
         (and-then ! (load ! (from ! (stop !)) (look ! 4 refl))
         (and-then ! (load ! (from ! (stop !)) (look ! 2 refl)) (and-then ! (load ! (from ! (stop !)) (look ! 6 refl)) (no-more !)))) (λ u is.
         land ! (from ! (stop !)) (init ! 11 refl (EL.lawful S.the-type S′.the-laws 𝓤 H A W tt .typed (found d due) _ is .0)) $

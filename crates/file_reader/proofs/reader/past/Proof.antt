@@ -42,7 +42,8 @@ use denote.Exit.{yes}
 use Rattle.file_reader.specs.declared.reader.Reader.{Reader}
 use Rattle.file_reader.proofs.reader.Reader as T
 use Rattle.file_reader.proofs.reader.Reader.Laws as T′
-use Rattle.file_reader.proofs.Carried.{B, further, ReaderOwns, Token}
+use Rattle.file_reader.proofs.Carried.{B, further, ReaderOwns}
+use Rattle.file_reader.proofs.ReaderCalls.{Token}
 use Rattle.file_reader.proofs.reader.past.Key.{name as #file-reader·reader·past}
 use Rattle.file_reader.proofs.reader.past as past
 use Rattle.file_reader.proofs.reader.past.Statement as stated

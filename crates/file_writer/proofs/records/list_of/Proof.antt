@@ -9,7 +9,7 @@ use Rattle.file_writer.proofs.records.list_of.Statement.{statement}
 use Rattle.file_writer.proofs.records.list_of.Tie as tie
 
 returns : tie.Need-returns
-returns c = let a = c .before .before .before .args in c .ranked .ensures ∙ ap (λ (row : List ℕ). rankedPart row) (row-part (a .m) (a .rows .now) (a .s))
+returns c = let a = c .before .before .before .args in c .ranked .ensures .0 ∙ ap (λ (row : List ℕ). rankedPart row) (row-part (a .m) (a .rows .now) (a .s))
 
 pub list-of-spec : {M : Type 1} → statement M
 list-of-spec =

@@ -8,7 +8,7 @@ use Rattle.survey.proofs.rows.place.Statement.{statement}
 use Rattle.survey.proofs.rows.place.Tie as tie
 
 returns : tie.Need-returns
-returns c = c .place-in .ensures ∙ ap (λ (list : List ℕ). placeIn list (c .before .before .before .args .site)) (c .before .ranked .ensures)
+returns c = c .place-in .ensures ∙ ap (λ (list : List ℕ). placeIn list (c .before .before .before .args .site)) (c .before .ranked .ensures .0)
 
 pub place-spec : {M : Type 1} → statement M
 place-spec = tie.close (tie.spec (λ c κs. search needs) (λ c κs. search needs) returns)

@@ -25,13 +25,13 @@ slice-aggregate-result : tie.Need-slice-aggregate-result Inv-loop μ-loop
 slice-aggregate-result c = sym (length-take-le _ _ (omega arith))
 
 returns : tie.Need-returns Inv-loop μ-loop
-returns c = search (ranked-stop, arith)
+returns c = (search (ranked-stop, arith), refl)
 
 loop-again : tie.Need-loop-again Inv-loop μ-loop
 loop-again c = (search needs, search needs, search (ranked-more, arith))
 
 returns-2 : tie.Need-returns-2 Inv-loop μ-loop
-returns-2 c = search ranked-all
+returns-2 c = (search ranked-all, refl)
 
 pub ranked-spec : {M : Type 1} → statement M
 ranked-spec =
