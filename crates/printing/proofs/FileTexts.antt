@@ -2,8 +2,7 @@
 -- Assumes nothing.
 use mathlib.Core.Path.{_≡_, refl, sym, ap, _∙_}
 use mathlib.Core.List.{List}
-use Prim.Native.Nat.{ℕ, zero, suc, _*_, _≤_}
-use native.Mathlib.Nat.{mul-le-mul}
+use Prim.Native.Nat.{ℕ, zero, suc, _*_}
 use native.Mathlib.Omega.{arith}
 use lib.ListN.{length, take}
 use lib.Seq.{take-at}
@@ -14,38 +13,28 @@ use Rattle.survey.specs.Town.{Town, townOf, town}
 use Rattle.survey.specs.Refusals.{kindRefusal, lengthRefusal, surveyRefusal}
 use Rattle.survey.specs.Accepted.{Accepted}
 use Rattle.survey.proofs.Sound.{accepted}
-use Rattle.survey_file.specs.Decode.{fileRefusal, streetsIn, sitesIn, chosenIn, kindIn, townIn}
+use Rattle.survey_file.specs.Decode.{fileRefusal, chosenIn, kindIn, townIn}
 use Rattle.survey_file.proofs.Tries.{as-due}
 use Rattle.refusals.specs.Inputs.{ReadInput}
 use Rattle.refusals.specs.Refusals.{readRefusal}
+use Rattle.file_refusals.proofs.SizesGiven.{GivenSizes}
 use Rattle.planner.specs.declared.Read.{Read}
 use Rattle.planner.specs.declared.Read.the-variants as read
-use Rattle.planner.specs.Answers.{readAnswer}
+use Rattle.planner.specs.Answers.{readAccepts}
 use Rattle.planner.specs.Calls.{FileRead}
+use Rattle.planner.proofs.ReadAnswers.{survey-tells, refusal-tells}
 use Rattle.listing.specs.Listing.{refusedLine}
 use Rattle.printing.specs.Texts.{unlessRefused, planText, printed}
 use Rattle.printing.specs.Asked.{SurveyAsked}
 
--- a refusal that is answered is the first one, and not 0
-refused-text : (r : Read) (x y : ℕ) (file text : List ℕ) → r ≡ read.Refused x → r ≡ readAnswer y file → refusedLine x ≡ unlessRefused y text
-refused-text r x zero file text e h = let z : _≡_ {A = ℕ} 0 1 = cc in absurd (omega arith)
-refused-text r x (suc y) file text e h = let same : x ≡ suc y = cc in ap (λ (z : ℕ). refusedLine z) same
+-- a number that is refused, and not 0, is printed
+refused-text : (x y : ℕ) (text : List ℕ) → x ≡ y → (y ≡ 0 → ⊥) → refusedLine x ≡ unlessRefused y text
+refused-text x zero text e h = absurd (h refl)
+refused-text x (suc y) text e h = ap (λ (z : ℕ). refusedLine z) e
 
 -- where nothing is refused the text is printed
 none-refused : (x : ℕ) (text : List ℕ) → x ≡ 0 → text ≡ unlessRefused x text
 none-refused x text e = rw e
-
--- a survey that is answered is the file's, and nothing is refused
-record SizesRead (file : List ℕ) (x n m k kind : ℕ) : Type 0 where
-  accepted-file : x ≡ 0
-  streets : n ≡ streetsIn file
-  sites : m ≡ sitesIn file
-  chosen : k ≡ chosenIn file
-  of-kind : kind ≡ kindIn file
-
-sizes-read : (r : Read) (file : List ℕ) (x n m k kind : ℕ) → r ≡ read.Survey n m k kind → r ≡ readAnswer x file → SizesRead file x n m k kind
-sizes-read r file zero n m k kind e h = record { accepted-file = refl; streets = cc; sites = cc; chosen = cc; of-kind = cc }
-sizes-read r file (suc x) n m k kind e h = let z : _≡_ {A = ℕ} 0 1 = cc in absurd (omega arith)
 
 -- the front of a buffer that a list was laid over where nothing is refused
 front-read : {now : List ℕ} (new old : List ℕ) (k x : ℕ) → now ≡ after x (laid old 0 new) old → x ≡ 0 → length new ≡ k → take k now ≡ new
@@ -54,8 +43,6 @@ front-read new old k x e z size = rw (e, z) (take-at new _ k size)
 
 -- the survey in the fronts of the buffers is the file's, and its text is what is printed
 pub record SurveyRead (file rows scores : List ℕ) (n m k kind : ℕ) : Type 0 where
-  pub few-sites : m ≤ mostSites
-  pub few-rows : n * m ≤ mostRows
   pub asked : SurveyAsked (townOf n m (take m scores) (take (n * m) rows)) k kind
   pub text : planText (townOf n m (take m scores) (take (n * m) rows)) k kind ≡ printed file
 
@@ -70,14 +57,16 @@ module _ {i : ReadInput} {rows scores : List ℕ} {r : Read} (given : FileRead i
 
   pub refused-printed : {x : ℕ} → r ≡ read.Refused x → refusedLine x ≡ printed (i .file)
   unfolding printed
-  refused-printed {x} e = refused-text r x (fileRefusal (i .file)) (i .file) _ e (given .answer ∙ ap (λ (y : ℕ). readAnswer y (i .file)) file-decides)
+  refused-printed {x} e =
+      let (number, some) = refusal-tells given e in
+      refused-text x (fileRefusal (i .file)) _ (number ∙ file-decides) (λ z. some (file-decides ∙ z))
 
   module _ {n m k kind : ℕ} (answer : r ≡ read.Survey n m k kind) where
-    same : SizesRead (i .file) (readRefusal i) n m k kind
-    same = sizes-read r (i .file) (readRefusal i) n m k kind answer (given .answer)
+    same : GivenSizes i n m k kind
+    same = survey-tells given answer
 
     ok : surveyRefusal (townIn (i .file)) (chosenIn (i .file)) (kindRefusal (kindIn (i .file))) ≡ 0
-    ok = given .back (same .accepted-file) .accepted
+    ok = given .back (ap readAccepts answer) .accepted
 
     good : Accepted (townIn (i .file))
     good = accepted (townIn (i .file)) (chosenIn (i .file)) _ ok
@@ -85,12 +74,12 @@ module _ {i : ReadInput} {rows scores : List ℕ} {r : Read} (given : FileRead i
     rows-are : take (n * m) rows ≡ townIn (i .file) .rows
     rows-are =
         let size : length (townIn (i .file) .rows) ≡ n * m = rw (same .streets, same .sites) (good .rows-fit) in
-        front-read (townIn (i .file) .rows) (i .rows) (n * m) _ (given .row-bytes) (same .accepted-file) size
+        front-read (townIn (i .file) .rows) (i .rows) (n * m) _ (given .row-bytes) (same .quiet) size
 
     scores-are : take m scores ≡ townIn (i .file) .scores
     scores-are =
         let size : length (townIn (i .file) .scores) ≡ m = rw (same .sites) (good .scores-fit) in
-        front-read (townIn (i .file) .scores) (i .scores) m _ (given .score-numbers) (same .accepted-file) size
+        front-read (townIn (i .file) .scores) (i .scores) m _ (given .score-numbers) (same .quiet) size
 
     -- what holds of the file's survey holds of it
     as-read : (P : Town → ℕ → ℕ → Type 0) → P (townIn (i .file)) (chosenIn (i .file)) (kindIn (i .file))
@@ -99,13 +88,11 @@ module _ {i : ReadInput} {rows scores : List ℕ} {r : Read} (given : FileRead i
 
     text-is : planText (townIn (i .file)) (chosenIn (i .file)) (kindIn (i .file)) ≡ printed (i .file)
     unfolding printed
-    text-is = none-refused (fileRefusal (i .file)) _ (sym file-decides ∙ same .accepted-file)
+    text-is = none-refused (fileRefusal (i .file)) _ (sym file-decides ∙ same .quiet)
 
     pub survey-read : SurveyRead (i .file) rows scores n m k kind
     survey-read =
         record {
-          few-sites = omega (arith, same .sites, good .few-sites);
-          few-rows = rw (same .streets, same .sites) (mul-le-mul (good .few-streets) (good .few-sites));
           asked = as-read SurveyAsked (record { sound = ok });
           text = as-read (λ town chosen of-kind. planText town chosen of-kind ≡ printed (i .file)) text-is;
         }

@@ -53,10 +53,10 @@ survey-own t k own other e =
     sym (own-pass other _ _ streets (own-pass other _ _ sites (own-pass other _ _ chosen last)))
 
 -- the sizes of a plan
-pub survey-few : {t : Town} {k kind : ℕ} → SurveyAsked t k kind → (t .n ≤ mostStreets) × (k ≤ mostSites)
+pub survey-few : {t : Town} {k kind : ℕ} → SurveyAsked t k kind → (t .n ≤ mostStreets) × (t .m ≤ mostSites) × (k ≤ mostSites)
 survey-few {t} {k} asked =
     let ok = called t k _ (asked .sound) in
-    (ok .survey .few-streets, omega (arith, ok .few, ok .survey .few-sites))
+    (ok .survey .few-streets, ok .survey .few-sites, omega (arith, ok .few, ok .survey .few-sites))
 
 module _ {i : PlanInput} {kind : ℕ} (asked : PlanAsked i kind) where
   -- a plan that was made in the buffers can be listed
@@ -64,7 +64,7 @@ module _ {i : PlanInput} {kind : ℕ} (asked : PlanAsked i kind) where
       → ListingAsked (i .town .m) (i .town .rows) chosen division
   listing-asked {division} d s =
       let ok = called (i .town) (i .k) _ (asked .survey .sound) .survey in
-      let (few-streets, few-chosen) = survey-few (asked .survey) in
+      let (few-streets, few-sites, few-chosen) = survey-few (asked .survey) in
       let size : length division ≡ i .town .n = d ∙ asked .streets in
       record {
         few-sites = ok .few-sites;

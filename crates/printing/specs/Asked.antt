@@ -3,9 +3,10 @@
 use Prim.Native.Nat.{ℕ, _*_, _≤_}
 use mathlib.Core.Path.{_≡_}
 use mathlib.Core.List.{List}
-use lib.ListN.{length}
-use Rattle.counting.specs.Bounds.{mostStreets, mostSites}
-use Rattle.survey.specs.Town.{Town}
+use lib.ListN.{length, take}
+use Rattle.counting.specs.Bounds.{mostStreets, mostSites, mostRows}
+use Rattle.survey.specs.Town.{Town, townOf}
+use Rattle.survey.specs.declared.Survey.{Survey}
 use Rattle.survey.specs.Refusals.{kindRefusal, surveyRefusal}
 use Rattle.refusals.specs.Inputs.{PlanInput}
 
@@ -25,3 +26,17 @@ pub record ListingAsked (m : ℕ) (rows sites division : List ℕ) : Type 0 wher
   pub few-chosen : length sites ≤ mostSites
   pub few-streets : length division ≤ mostStreets
   pub rows-there : length division * m ≤ length rows
+
+-- a survey as a program holds it
+abbrev pub surveyHeld : ℕ → ℕ → ℕ → ℕ → List ℕ → List ℕ → Survey
+surveyHeld n m k kind scores rows = record { n = n; m = m; k = k; kind = kind; scores = scores; rows = rows }
+
+-- its town: the first m numbers of the score buffer and the first n times m bytes of the row buffer count
+abbrev pub townHeld : Survey → Town
+townHeld s = townOf (s .n) (s .m) (take (s .m) (s .scores)) (take (s .n * s .m) (s .rows))
+
+-- one of which nothing is refused
+pub record SurveyHeld (s : Survey) : Type 0 where
+  pub asked : SurveyAsked (townHeld s) (s .k) (s .kind)
+  pub scores-long : length (s .scores) ≡ mostSites
+  pub rows-long : length (s .rows) ≡ mostRows

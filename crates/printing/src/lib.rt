@@ -10,7 +10,7 @@ ghost use Rattle.survey.specs.Town.{townOf, was, is, town};
 ghost use Rattle.refusals.specs.Inputs.{planOf};
 ghost use Rattle.listing.specs.Listing.{mostText};
 ghost use Rattle.printing.specs.Texts.{answerText, planText, printed};
-ghost use Rattle.printing.specs.Asked.{SurveyAsked, PlanAsked, ListingAsked};
+ghost use Rattle.printing.specs.Asked.{SurveyAsked, PlanAsked, ListingAsked, surveyHeld, townHeld, SurveyHeld};
 
 // A buffer of so many bytes has room for every text: 400 streets have lines of at most 19 bytes each.
 pub const TEXT: usize = 8192;
@@ -81,48 +81,75 @@ fn print_plan(
     write_answer(answer, m, rows, chosen, division, out)
 }
 
-// The text of an accepted survey.
-fn print_survey(
+// The text of an accepted survey, whose scores and rows are the fronts of two buffers.
+fn print_survey<'a>(
     kind: usize,
     n: usize,
     m: usize,
     k: usize,
-    scores: &[u16],
-    rows: &[u8],
+    scores: &'a [u16],
+    rows: &'a [u8],
     out: &mut [u8],
 ) -> usize
-    requires { ⌜ SurveyAsked (townOf n m (now scores) (now rows)) k kind ⌝ }
+    requires { ⌜ SurveyHeld (surveyHeld n m k kind (now scores) (now rows)) ⌝ }
     requires { ⌜ mostText ≤ length (now out) ⌝ }
-    ensures { λ r. ⌜ Written (was out) 0 (planText (town n m scores rows) k kind) (is out) r ⌝ }
+    ensures { λ r. ⌜ Written (was out) 0 (planText (townHeld (surveyHeld n m k kind (was scores) (was rows))) k kind) (is out) r ⌝ }
 {
     let mut division = [0u8; Survey::STREETS];
     let mut chosen = [0u8; Survey::SITES];
+    let size = n * m;
     print_plan(
         kind,
         n,
         m,
         k,
-        scores,
-        rows,
+        &scores[..m],
+        &rows[..size],
         &mut division[..n],
         &mut chosen[..k],
         out,
     )
 }
 
-// Writes what is printed for a file over the front of a buffer that has room for every text, and gives back how many bytes that is.
+// The text of an accepted survey.
+fn print_held(survey: Survey, out: &mut [u8]) -> usize
+    requires { ⌜ SurveyHeld survey ⌝ }
+    requires { ⌜ mostText ≤ length (now out) ⌝ }
+    ensures { λ r. ⌜ Written (was out) 0 (planText (townHeld survey) (survey .k) (survey .kind)) (is out) r ⌝ }
+{
+    print_survey(
+        survey.kind,
+        survey.n,
+        survey.m,
+        survey.k,
+        &survey.scores,
+        &survey.rows,
+        out,
+    )
+}
+
+// Writes what is printed for a file over the front of a buffer that has room for every text, and gives back how many bytes that is. The survey is
+// empty at first; the reader fills its buffers, and the plan is made from it.
 pub fn print(file: &[u8], out: &mut [u8]) -> usize
     requires { ⌜ mostText ≤ length (now out) ⌝ }
     ensures { λ r. ⌜ Written (was out) 0 (printed (was file)) (is out) r ⌝ }
 {
-    let mut rows = [0u8; Survey::ROWS];
-    let mut scores = [0u16; Survey::SITES];
+    let empty = Survey::empty();
+    let mut rows = empty.rows;
+    let mut scores = empty.scores;
     let answer = planner::read_file(file, &mut rows, &mut scores);
     match answer {
-        Read::Survey { n, m, k, kind } => {
-            let size = n * m;
-            print_survey(kind, n, m, k, &scores[..m], &rows[..size], out)
-        }
+        Read::Survey { n, m, k, kind } => print_held(
+            Survey {
+                n,
+                m,
+                k,
+                kind,
+                scores,
+                rows,
+            },
+            out,
+        ),
         Read::Refused(x) => listing::write_line(b"refused", x as usize, out, 0),
     }
 }

@@ -2,11 +2,10 @@
 use borrow.Author.Needs.{needs}
 use native.Mathlib.Omega.{arith}
 use native.Mathlib.Nat.{le-trans}
-use mathlib.Core.Path.{_≡_, sym, _∙_}
+use mathlib.Core.Path.{_≡_, ap, _∙_}
 use mathlib.Core.List.{List}
-use Prim.Native.Nat.{ℕ, _*_, _≤_}
-use lib.ListN.{length, replicate, length-replicate}
-use lib.Seq.{length-take-le}
+use Prim.Native.Nat.{ℕ}
+use lib.ListN.{length, length-replicate}
 use Rattle.counting.specs.Bounds.{mostSites, mostRows}
 use Rattle.listing.specs.Listing.{refusedLine}
 use Rattle.listing.proofs.Sizes.{refused-fits}
@@ -16,16 +15,19 @@ use Rattle.printing.proofs.FileTexts.{SurveyRead, survey-read, refused-
 use Rattle.printing.proofs.print.Statement.{statement}
 use Rattle.printing.proofs.print.Tie as tie
 
--- the two arrays have the lengths that reading asks for
-rows-blank : length {A = ℕ} (replicate mostRows 0) ≡ mostRows
-rows-blank = length-replicate {A = ℕ} mostRows 0
+-- ---- the buffers of the empty survey have the lengths that reading asks for
+rows-blank : (e : tie.After-empty) → length (e .empty .result .rows) ≡ mostRows
+rows-blank e = ap length (e .empty .ensures .1 .0 .1) ∙ length-replicate {A = ℕ} mostRows 0
 
-scores-blank : length {A = ℕ} (replicate mostSites 0) ≡ mostSites
-scores-blank = length-replicate {A = ℕ} mostSites 0
+scores-blank : (e : tie.After-empty) → length (e .empty .result .scores) ≡ mostSites
+scores-blank e = ap length (e .empty .ensures .1 .0 .0) ∙ length-replicate {A = ℕ} mostSites 0
 
--- ---- once the file is read: the arrays keep their lengths
+-- ---- once the file is read: the buffers keep their lengths
+abbrev at-empty : tie.After-read-file → tie.After-empty
+at-empty r = r .before .before .before .before .before
+
 abbrev entry : tie.After-read-file → tie.Start
-entry r = r .before .before .before .before .before
+entry r = at-empty r .before .before .before
 
 abbrev rows : tie.After-read-file → List ℕ
 rows r = r .read-file .last .1 .0
@@ -34,12 +36,12 @@ abbrev scores : tie.After-read-file → List ℕ
 scores r = r .read-file .last .1 .1 .0
 
 rows-long : (r : tie.After-read-file) → length (rows r) ≡ mostRows
-rows-long r = r .read-file .kept .1 .0 ∙ rows-blank
+rows-long r = r .read-file .kept .1 .0 ∙ rows-blank (at-empty r)
 
 scores-wide : (r : tie.After-read-file) → length (scores r) ≡ mostSites
-scores-wide r = r .read-file .kept .1 .1 .0 ∙ scores-blank
+scores-wide r = r .read-file .kept .1 .1 .0 ∙ scores-blank (at-empty r)
 
--- ---- once the answer is a survey: it is in the fronts of the arrays
+-- ---- once the answer is a survey: it is in the fronts of the buffers
 abbrev reading : tie.After-answer → tie.After-read-file
 reading s = s .before .before .before .before
 
@@ -49,40 +51,23 @@ sizes s = let g = s .answer .given .0 in (g .0, g .1 .0, g .1 .1 .0, g .1 .1 .1 
 
 survey : (s : tie.After-answer) → let (n, m, k, kind) = sizes s in
     SurveyRead (entry (reading s) .args .file .now) (rows (reading s)) (scores (reading s)) n m k kind
-survey s = survey-read (reading s .read-file .ensures) rows-blank scores-blank (s .answer .given .1)
-
-scores-there : (s : tie.After-answer) → sizes s .1 ≤ length (scores (reading s))
-scores-there s = rw (scores-wide (reading s)) (survey s .few-sites)
-
-rows-there : (s : tie.After-answer) → sizes s .0 * sizes s .1 ≤ length (rows (reading s))
-rows-there s = rw (rows-long (reading s)) (survey s .few-rows)
+survey s =
+    let e = at-empty (reading s) in
+    survey-read (reading s .read-file .ensures) (rows-blank e) (scores-blank e) (s .answer .given .1)
 
 -- ---- once it is a refusal: its line is what is printed
 abbrev refused-reading : tie.After-answer2 → tie.After-read-file
 refused-reading x = x .before .before .before .before
 
 refused : (x : tie.After-answer2) → refusedLine (x .answer2 .given .0 .0) ≡ printed (entry (refused-reading x) .args .file .now)
-refused x = refused-printed (refused-reading x .read-file .ensures) rows-blank scores-blank (x .answer2 .given .1)
+refused x =
+    let e = at-empty (refused-reading x) in
+    refused-printed (refused-reading x .read-file .ensures) (rows-blank e) (scores-blank e) (x .answer2 .given .1)
 
-mul-size : tie.Need-mul-size
-mul-size c = omega (arith, survey (c .before) .few-rows)
-
-array-share-prefix-scores : tie.Need-array-share-prefix-scores
-array-share-prefix-scores c = scores-there (c .before)
-
-slice-aggregate-print-survey : tie.Need-slice-aggregate-print-survey
-slice-aggregate-print-survey c = sym (length-take-le _ _ (scores-there (c .before .before)))
-
-array-share-prefix-rows : tie.Need-array-share-prefix-rows
-array-share-prefix-rows c = rows-there (c .before .before)
-
-slice-aggregate-print-survey-2 : tie.Need-slice-aggregate-print-survey-2
-slice-aggregate-print-survey-2 c = sym (length-take-le _ _ (rows-there (c .before .before .before)))
-
-print-survey-requires : tie.Need-print-survey-requires
-print-survey-requires c κs =
-    let s = c .before .before .before .before in
-    (survey s .asked, entry (reading s) .pre)
+print-held-requires : tie.Need-print-held-requires
+print-held-requires c κs =
+    let s = c .before .before in
+    (record { asked = survey s .asked; scores-long = scores-wide (reading s); rows-long = rows-long (reading s) }, entry (reading s) .pre)
 
 write-line-requires : tie.Need-write-line-requires
 write-line-requires c κs =
@@ -90,7 +75,7 @@ write-line-requires c κs =
     start-room _ (refusedLine x) (le-trans (refused-fits x (omega arith)) (entry (refused-reading (c .before .before .before)) .pre))
 
 returns : tie.Need-returns
-returns c = written-same (survey (c .before .before .before .before .before .before .before) .text) (c .before .before .print-survey .ensures)
+returns c = written-same (survey (c .before .before .before .before .before) .text) (c .before .before .print-held .ensures)
 
 returns-2 : tie.Need-returns-2
 returns-2 c = written-same (refused (c .before .before .before .before .before .before)) (c .before .before .write-line .ensures)
@@ -99,16 +84,12 @@ pub print-spec : {M : Type 1} → statement M
 print-spec =
     tie.close
     (tie.spec
+    (λ c κs. search needs)
     (λ c. search needs)
     (λ c. search needs)
     (λ c κs. search needs)
     (λ c. search needs)
-    mul-size
-    array-share-prefix-scores
-    slice-aggregate-print-survey
-    array-share-prefix-rows
-    slice-aggregate-print-survey-2
-    print-survey-requires
+    print-held-requires
     (λ c. search needs)
     (λ c. search needs)
     (λ c. search needs)
