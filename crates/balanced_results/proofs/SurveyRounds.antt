@@ -1,7 +1,7 @@
 -- Laws between the rows and the balanced plan: keys, lines and orders from the survey, and the rounds' division in the shares of their sites.
 -- Assumes nothing.
 use mathlib.Core.Path.{_≡_, refl, sym, ap, _∙_}
-use mathlib.Core.Bool.{true}
+use mathlib.Core.Bool.{Bool, true, false}
 use mathlib.Core.List.{List, _++_}
 use mathlib.Core.Logic.{by-cases}
 use Prim.Native.Nat.{ℕ, _+_, _*_, _/_, _%_, _≤_, _<_}
@@ -26,7 +26,9 @@ use Rattle.balanced_plan.proofs.FloorShares.{even-sum}
 use Rattle.balanced_plan.proofs.Agree.{rounds-agree}
 use Rattle.balanced_rounds.specs.declared.State.{State}
 use Rattle.balanced_rounds.specs.Lines.{Orders, Lines, stateOf}
+use Rattle.division.specs.Problem.{tail}
 use Rattle.balanced_results.specs.Shareable.{Shareable}
+use Rattle.balanced_results.specs.Begun.{Shared, Begun, Listed, sitesOf}
 use Rattle.balanced_results.specs.Plans.{dividedBy, rowKey, roundsBy}
 use Rattle.balanced_results.proofs.ListShares.{as-surveyed}
 
@@ -115,23 +117,22 @@ module _ (v key : ℕ → ℕ → ℕ) (n m k : ℕ) (few : k ≤ m) (even : k *
   pub sites-shareable : 0 < k → Shareable n m (end .chosen)
   sites-shareable some =
       let p = sites-plan in
-      record { some = omega (arith, p .size); sites = p .sites; apart = p .apart; even = rw (p .size) even }
+      record { some = omega (arith, p .size); few = omega (arith, p .size, few); sites = p .sites; apart = p .apart; even = rw (p .size) even }
 
   -- and the rounds share them so
   pub division-shared : InShares (end .division) (sharesOf (evenShare n (length (end .chosen))) (end .chosen) m)
   division-shared = rw (sites-plan .size) (rounds-in v key n m (evenShare n k) k few (even-sum n m k even))
 
-  -- the same for lists that are these, and for the length of the division
-  pub rounds-ready : 0 < k → (sites division : List ℕ) → length division ≡ n → sites ≡ end .chosen → division ≡ end .division
-      → Shareable (length division) m sites × InShares division (sharesOf (evenShare (length division) (length sites)) sites m)
-  rounds-ready some sites division size e d =
-      let shareable = along (λ (S : List ℕ). Shareable n m S) e (sites-shareable some) in
-      let shared =
-      along (λ (D : List ℕ). InShares D (sharesOf (evenShare n (length sites)) sites m)) d
-      (along (λ (S : List ℕ). InShares (end .division) (sharesOf (evenShare n (length S)) S m)) e division-shared) in (
-        along (λ (j : ℕ). Shareable j m sites) size shareable,
-        along (λ (j : ℕ). InShares division (sharesOf (evenShare j (length sites)) sites m)) size shared,
-      )
+  -- the same for lists that are these, with the shares as they were given out
+  module _ (some : 0 < k) {sites : List ℕ} (e : sites ≡ end .chosen) where
+    pub rounds-shareable : Shareable n m sites
+    rounds-shareable = along (λ (S : List ℕ). Shareable n m S) e (sites-shareable some)
+
+    pub rounds-begun : {shares division : List ℕ} → division ≡ end .division → Shared n m sites shares → Begun n m sites shares division
+    rounds-begun {shares} {division} d shared =
+        let same : tail shares ≡ sharesOf (evenShare n (length (end .chosen))) (end .chosen) m =
+        shared .right ∙ ap (λ (S : List ℕ). sharesOf (evenShare n (length S)) S m) e in
+        record { shareable = rounds-shareable; shared = shared; divided = rw (d, same) division-shared }
 
 -- the engine's lists after the rounds are those of the definition
 pub state-sites : (n k : ℕ) (state : State) (end : plan.State) → state .count ≡ k → stateOf n state ≡ end → take k (state .chosen) ≡ end .chosen
@@ -140,16 +141,28 @@ state-sites n k state end e h = rw e at (ap (λ (x : plan.State). x .chosen) h)
 pub state-division : (n : ℕ) (state : State) (end : plan.State) → stateOf n state ≡ end → take n (state .division) ≡ end .division
 state-division n state end h = ap (λ (x : plan.State). x .division) h
 
--- what a plan by the table's values is, said of the town's: it goes by the values of the streets below n and the sites 1 to m
-module _ (v w : ℕ → ℕ → ℕ) (n m k : ℕ) (rows : List ℕ) (some : 0 < k) (few : k ≤ m) (even : k * (n / k) ≡ n)
-    (same : (s a : ℕ) → s < n → a ≤ m → v s a ≡ w s a) where
-  sites-same : roundsBy v n m k rows .chosen ≡ roundsBy w n m k rows .chosen
-  sites-same = ap (λ (state : plan.State). state .chosen) (rounds-agree v w (rowKey m rows) (rowKey m rows) n m (evenShare n k) same (λ a s l u. refl) k)
+-- what a division by the table's values is, said of the town's: it goes by the values of the streets below n and the sites 1 to m
+module _ (v w : ℕ → ℕ → ℕ) (n m : ℕ) (rows : List ℕ) (same : (s a : ℕ) → s < n → a ≤ m → v s a ≡ w s a) where
+  -- the rounds choose the same sites
+  sites-same : (k : ℕ) → roundsBy v n m k rows .chosen ≡ roundsBy w n m k rows .chosen
+  sites-same k = ap (λ (state : plan.State). state .chosen) (rounds-agree v w (rowKey m rows) (rowKey m rows) n m (evenShare n k) same (λ a s l u. refl) k)
 
-  pub plan-surveyed : (j : ℕ) → j ≡ n → (F S : List ℕ) (t : ℕ) → t ≡ divisionTotal v (dividedBy v j m S) → F ≡ dividedBy v j m S
-      → S ≡ roundsBy v j m k rows .chosen → let own = roundsBy w n m k rows .chosen in
-      (t ≡ divisionTotal w (dividedBy w n m own)) × ((F ≡ dividedBy w n m own) × (S ≡ own))
-  plan-surveyed j e F S t total division sites =
-      let S′ : S ≡ roundsBy w n m k rows .chosen = (rw e at sites) ∙ sites-same in
-      let (x, y) = as-surveyed (sites-shareable w (rowKey m rows) n m k few even some) j e v w same F t (rw S′ at total) (rw S′ at division) in
-      (x, (y, S′))
+  own-sites : (planned : Bool) (list sites : List ℕ) → sites ≡ sitesOf planned (roundsBy v n m (length list) rows .chosen) list
+      → sites ≡ sitesOf planned (roundsBy w n m (length list) rows .chosen) list
+  own-sites true list sites e = e ∙ sites-same (length list)
+  own-sites false list sites e = e
+
+  -- over which the streets can be shared
+  own-shareable : (planned : Bool) (list sites : List ℕ) → Listed planned n m list
+      → sites ≡ sitesOf planned (roundsBy w n m (length list) rows .chosen) list → Shareable n m sites
+  own-shareable true list sites ok e =
+      along (λ (S : List ℕ). Shareable n m S) e (sites-shareable w (rowKey m rows) n m (length list) (ok .1) (ok .2) (ok .0))
+  own-shareable false list sites ok e = along (λ (S : List ℕ). Shareable n m S) e ok
+
+  pub best-surveyed : (planned : Bool) (list : List ℕ) → Listed planned n m list → (j : ℕ) → j ≡ n → (F S : List ℕ) (t : ℕ)
+      → t ≡ divisionTotal v (dividedBy v j m S) → F ≡ dividedBy v j m S → S ≡ sitesOf planned (roundsBy v j m (length list) rows .chosen) list
+      → (t ≡ divisionTotal w (dividedBy w n m S)) × ((F ≡ dividedBy w n m S) × (S ≡ sitesOf planned (roundsBy w n m (length list) rows .chosen) list))
+  best-surveyed planned list ok j e F S t total division sites =
+      let own = own-sites planned list S (rw e at sites) in
+      let (x, y) = as-surveyed (own-shareable planned list S ok own) j e v w same F t total division in
+      (x, (y, own))

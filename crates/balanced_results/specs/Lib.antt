@@ -1,2 +1,3 @@
 pub mod Shareable
+pub mod Begun
 pub mod Plans

@@ -8,9 +8,10 @@ use lib.ListN.{length}
 use Rattle.counting.specs.Lists.{distinct}
 use Rattle.counting.specs.Sites.{Sites}
 
--- different sites of 1 to m, at least one, whose number divides n
+-- different sites of 1 to m, at least one and at most m, whose number divides n
 pub record Shareable (n m : ℕ) (list : List ℕ) : Type 0 where
   pub some : 0 < length list
+  pub few : length list ≤ m
   pub sites : Sites m list
   pub apart : distinct list ≡ true
   pub even : length list * (n / length list) ≡ n

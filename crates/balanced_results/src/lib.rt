@@ -1,37 +1,73 @@
-// From an accepted survey to the best balanced division over a list of sites: the table is filled, the shares are made, a first division in
-// them is found, and it becomes the best one.
+// From an accepted survey to the best balanced division, over a list of sites or over the sites that the rounds choose: the table is filled, a first
+// division in equal shares is found, and it becomes the best one.
 ghost use mathlib.Core.Path.{_≡_};
-ghost use Prim.Native.Nat.{ℕ, _+_, _/_};
+ghost use Prim.Native.Nat.{ℕ, _+_};
 ghost use lib.ListN.{length};
 ghost use Rattle.counting.specs.Lists.{at};
 ghost use Rattle.survey.specs.Town.{townOf, town, was, is};
 ghost use Rattle.survey.specs.Accepted.{Accepted};
-ghost use Rattle.tables.specs.Tables.{StreetTable, valueIn};
+ghost use Rattle.tables.specs.Tables.{valueIn};
 ghost use Rattle.division.specs.Shares.{divisionTotal};
-ghost use Rattle.plans.specs.Plans.{planTotal, balancedDivision};
-ghost use Rattle.balanced_results.specs.Shareable.{Shareable};
-ghost use Rattle.balanced_results.specs.Plans.{dividedBy};
+ghost use Rattle.plans.specs.Plans.{planTotal, balancedDivision, balancedSites, balancedTotal};
+ghost use Rattle.balanced_results.specs.Shareable.{Shareable, Divides};
+ghost use Rattle.balanced_results.specs.Begun.{Listed, sitesOf};
+ghost use Rattle.balanced_results.specs.Plans.{dividedBy, roundsBy, RankedTable};
 
-pub mod planning;
+mod first;
 
-// The best division by a table of values, with buffers for the shares and for what is left of them.
+// The best division by a table of values, with a buffer for the shares.
 fn divide_table(
     values: &[u32],
+    rows: &[u8],
     m: usize,
-    sites: &[u8],
+    planned: bool,
+    sites: &mut [u8],
     division: &mut [u8],
     shares: &mut [u16],
-    left: &mut [u16],
 ) -> u32
-    requires { ⌜ StreetTable (length (now division)) m (now values) × Shareable (length (now division)) m (now sites) ⌝ }
-    requires { ⌜ (length (now shares) ≡ m + 1) × (length (now left) ≡ m + 1) × ((a : ℕ) → at (now shares) a ≡ 0) ⌝ }
-    ensures total { λ r. ⌜ r ≡ divisionTotal (valueIn (was values) m) (dividedBy (valueIn (was values) m) (length (was division)) m (was sites)) ⌝ }
-    ensures division { λ _. ⌜ is division ≡ dividedBy (valueIn (was values) m) (length (was division)) m (was sites) ⌝ }
+    requires { ⌜ RankedTable (now values) (length (now division)) m (now rows) ⌝ }
+    requires { ⌜ Listed planned (length (now division)) m (now sites) ⌝ }
+    requires { ⌜ (length (now shares) ≡ m + 1) × ((a : ℕ) → at (now shares) a ≡ 0) ⌝ }
+    ensures total { λ r. ⌜ r ≡ divisionTotal (valueIn (was values) m) (dividedBy (valueIn (was values) m) (length (was division)) m (is sites)) ⌝ }
+    ensures division { λ _. ⌜ is division ≡ dividedBy (valueIn (was values) m) (length (was division)) m (is sites) ⌝ }
+    ensures sites { λ _. ⌜ is sites ≡ sitesOf planned
+        (roundsBy (valueIn (was values) m) (length (was division)) m (length (was sites)) (was rows) .chosen) (was sites) ⌝ }
 {
-    let q = division.len() / sites.len();
-    starts::share_out(sites, q as u16, m, shares);
-    starts::begin(values, shares, left, division);
+    first::divide(values, rows, m, planned, sites, division, shares);
     compact::best(values, shares, division)
+}
+
+// The best balanced division over the sites, which the rounds choose or not, and its total. It has two callers, so that its tables are on the stack
+// only while a division is made, and not while a call is refused.
+fn best(
+    n: usize,
+    m: usize,
+    scores: &[u16],
+    rows: &[u8],
+    planned: bool,
+    sites: &mut [u8],
+    division: &mut [u8],
+) -> u32
+    requires { ⌜ Accepted (townOf n m (now scores) (now rows)) × Listed planned n m (now sites) ⌝ }
+    requires { ⌜ length (now division) ≡ n ⌝ }
+    ensures total { λ r. ⌜ r ≡ planTotal (town n m scores rows) (balancedDivision (town n m scores rows) (is sites)) ⌝ }
+    ensures division { λ _. ⌜ is division ≡ balancedDivision (town n m scores rows) (is sites) ⌝ }
+    ensures sites { λ _. ⌜ is sites ≡ sitesOf planned (balancedSites (town n m scores rows) (length (was sites))) (was sites) ⌝ }
+{
+    let w = m + 1;
+    let size = n * w;
+    let mut table = [0u32; counting::ENTRIES];
+    let mut shares = [0u16; counting::WIDTH];
+    tables::by_street::fill_values(n, m, scores, rows, &mut table[..size]);
+    divide_table(
+        &table[..size],
+        rows,
+        m,
+        planned,
+        sites,
+        division,
+        &mut shares[..w],
+    )
 }
 
 // The best balanced division over a list of sites, and its total.
@@ -48,18 +84,26 @@ pub fn divide(
     ensures total { λ r. ⌜ r ≡ planTotal (town n m scores rows) (balancedDivision (town n m scores rows) (was sites)) ⌝ }
     ensures division { λ _. ⌜ is division ≡ balancedDivision (town n m scores rows) (was sites) ⌝ }
 {
-    let w = m + 1;
-    let size = n * w;
-    let mut table = [0u32; counting::ENTRIES];
-    let mut shares = [0u16; counting::WIDTH];
-    let mut left = [0u16; counting::WIDTH];
-    tables::by_street::fill_values(n, m, scores, rows, &mut table[..size]);
-    divide_table(
-        &table[..size],
-        m,
-        sites,
-        division,
-        &mut shares[..w],
-        &mut left[..w],
-    )
+    let k = sites.len();
+    let mut list = [0u8; counting::SITES];
+    buffers::copy_bytes(sites, &mut list[..k]);
+    best(n, m, scores, rows, false, &mut list[..k], division)
+}
+
+// The balanced plan: its sites, its division, and its total.
+pub fn plan(
+    n: usize,
+    m: usize,
+    scores: &[u16],
+    rows: &[u8],
+    division: &mut [u8],
+    chosen: &mut [u8],
+) -> u32
+    requires { ⌜ Accepted (townOf n m (now scores) (now rows)) × Divides n m (length (now chosen)) ⌝ }
+    requires { ⌜ length (now division) ≡ n ⌝ }
+    ensures total { λ r. ⌜ r ≡ balancedTotal (town n m scores rows) (length (was chosen)) ⌝ }
+    ensures division { λ _. ⌜ is division ≡ balancedDivision (town n m scores rows) (balancedSites (town n m scores rows) (length (was chosen))) ⌝ }
+    ensures chosen { λ _. ⌜ is chosen ≡ balancedSites (town n m scores rows) (length (was chosen)) ⌝ }
+{
+    best(n, m, scores, rows, true, chosen, division)
 }

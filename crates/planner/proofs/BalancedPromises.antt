@@ -51,6 +51,7 @@ module _ {i : DivisionInput} {x : ℕ} (tried : Tried balancedDivisionRefusal i 
         let l = balanced-division-listed tried z in
         record {
           some = l .called .some;
+          few = l .called .few;
           sites = list-sites (i .town .m) (i .sites) (l .list);
           apart = list-apart (i .town .m) (i .sites) (l .list);
           even = balanced-division-fits tried z .0;

@@ -141,7 +141,7 @@ pub fn balanced_plan(
     if x != 0 {
         return Answer::Refused(x);
     }
-    Answer::Total(balanced_results::planning::plan(n, m, scores, rows, division, chosen))
+    Answer::Total(balanced_results::plan(n, m, scores, rows, division, chosen))
 }
 
 // The floor: what every balanced plan of k sites totals at least. Refuses with 1, 2, 3, 5, 6, 8, 9, 10 or 11.

@@ -1,81 +1,67 @@
 -- `balanced_results::divide` meets its contract. Assumes nothing.
 use borrow.Author.Needs.{needs}
-use mathlib.Core.Path.{_≡_, sym}
-use Prim.Native.Nat.{ℕ, _+_}
+use mathlib.Core.Path.{_≡_, sym, _∙_}
+use mathlib.Core.List.{List, _++_}
+use Prim.Native.Nat.{ℕ}
 use native.Mathlib.Omega.{arith}
 use lib.ListN.{length, take, replicate}
 use Rattle.counting.proofs.Equations.{along}
-use Rattle.counting.proofs.Parts.{front-length, front-blank}
-use Rattle.tables.proofs.Tabled.{part-blank, part-room, part-size, street-fits, street-ready, street-same}
+use Rattle.counting.proofs.Parts.{front-length, back-is, back-room, back-size}
 use Rattle.balanced_results.specs.Shareable.{Shareable}
-use Rattle.balanced_results.proofs.ListShares.{as-surveyed}
 use Rattle.balanced_results.proofs.divide.Statement.{statement}
 use Rattle.balanced_results.proofs.divide.Tie as tie
 
--- once the table is filled
-abbrev entry : tie.After-fill-values → tie.Start
+-- the array has room for the list
+list-size : (s : tie.Start) → length {A = ℕ} (take (length (s .args .sites .now)) (replicate 64 0)) ≡ length (s .args .sites .now)
+list-size s = front-length (length (s .args .sites .now)) 64 (omega (arith, s .pre .0 .1 .few, s .pre .0 .0 .few-sites))
+
+-- ---- once the list is copied
+abbrev entry : tie.After-copy-bytes → tie.Start
 entry i = i .before .before .before .before .before .before
 
--- the buffers of shares have a place for each site and for site 0
-shares-size : (s : tie.Start) → length {A = ℕ} (take (s .args .m + 1) (replicate 65 0)) ≡ s .args .m + 1
-shares-size s = front-length (s .args .m + 1) 65 (omega (arith, s .pre .0 .0 .few-sites))
+abbrev copied : tie.After-copy-bytes → List ℕ
+copied i = i .copy-bytes .last .1 .0
 
-array-borrow-prefix-table : tie.Need-array-borrow-prefix-table
-array-borrow-prefix-table c = let p = c .before .before .before .before .pre in omega (arith, street-fits (p .0 .0))
+copied-size : (i : tie.After-copy-bytes) → length (copied i) ≡ length (entry i .args .sites .now)
+copied-size i = i .copy-bytes .kept .1 .0 ∙ list-size (entry i)
 
-slice-aggregate-fill-values : tie.Need-slice-aggregate-fill-values
-slice-aggregate-fill-values c = let p = c .before .before .before .before .before .pre in sym (part-blank (street-fits (p .0 .0)) .size)
+-- its part of the array is the list
+same : (i : tie.After-copy-bytes) (rest : List ℕ) → take (length (entry i .args .sites .now)) (copied i ++ rest) ≡ entry i .args .sites .now
+same i rest = back-is _ (copied i) rest (copied-size i) ∙ i .copy-bytes .ensures
 
-fill-values-requires : tie.Need-fill-values-requires
-fill-values-requires c κs = let p = c .before .before .before .before .before .pre in (p .0 .0, part-blank (street-fits (p .0 .0)))
+slice-aggregate-copy-bytes : tie.Need-slice-aggregate-copy-bytes
+slice-aggregate-copy-bytes c = sym (list-size (c .before .before .before .before .before))
 
-array-share-prefix-table : tie.Need-array-share-prefix-table
-array-share-prefix-table c = part-room _ (c .before .fill-values .ensures)
+copy-bytes-requires : tie.Need-copy-bytes-requires
+copy-bytes-requires c κs = sym (list-size (c .before .before .before .before .before))
 
-slice-aggregate-divide-table : tie.Need-slice-aggregate-divide-table
-slice-aggregate-divide-table c = part-size _ (c .before .before .fill-values .ensures)
+array-borrow-prefix-list-2 : tie.Need-array-borrow-prefix-list-2
+array-borrow-prefix-list-2 c = back-room _ (copied (c .before)) _ (copied-size (c .before))
 
-slice-aggregate-divide-table-2 : tie.Need-slice-aggregate-divide-table-2
-slice-aggregate-divide-table-2 c = sym (shares-size (c .before .before .before .before .before .before .before .before .before .before))
+slice-aggregate-best : tie.Need-slice-aggregate-best
+slice-aggregate-best c = sym (back-size _ (copied (c .before .before)) _ (copied-size (c .before .before)))
 
-slice-aggregate-divide-table-3 : tie.Need-slice-aggregate-divide-table-3
-slice-aggregate-divide-table-3 c = sym (shares-size (c .before .before .before .before .before .before .before .before .before .before .before))
-
-divide-table-requires : tie.Need-divide-table-requires
-divide-table-requires c κs =
-    let i = c .before .before .before .before .before in
-    let a = entry i .args in
-    let p = entry i .pre in
-    let ok = p .0 .0 in (
-      (
-        street-ready ok _ (i .fill-values .ensures) _ (p .1),
-        along (λ (j : ℕ). Shareable j (a .m) (a .sites .now)) (p .1) (p .0 .1),
-      ),
-      (shares-size (entry i), shares-size (entry i), front-blank (a .m + 1) 65 (omega (arith, ok .few-sites))),
-    )
+best-requires : tie.Need-best-requires
+best-requires c κs =
+    let i = c .before .before .before in
+    let s = entry i in
+    ((s .pre .0 .0, along (λ (L : List ℕ). Shareable (s .args .n) (s .args .m) L) (same i _) (s .pre .0 .1)), s .pre .1)
 
 returns : tie.Need-returns
 returns c =
-    let i = c .before .before .before .before .before .before .before .before .before .before in
-    let p = entry i .pre in
-    let t = c .before .before .before .before .divide-table .ensures in
-    as-surveyed (p .0 .1) _ (p .1) _ _ (street-same (p .0 .0) _ (i .fill-values .ensures)) _ _ (t .0) (t .1)
+    let t = c .before .before .before .best .ensures in
+    let sites = t .1 .1 ∙ same (c .before .before .before .before .before .before .before) _ in
+    (rw sites at (t .0), rw sites at (t .1 .0))
 
 pub divide-spec : {M : Type 1} → statement M
 divide-spec =
     tie.close
     (tie.spec
     (λ c. search needs)
-    (λ c. search needs)
-    array-borrow-prefix-table
-    slice-aggregate-fill-values
-    fill-values-requires
-    array-share-prefix-table
-    slice-aggregate-divide-table
-    (λ c. search needs)
-    slice-aggregate-divide-table-2
-    (λ c. search needs)
-    slice-aggregate-divide-table-3
-    divide-table-requires
+    slice-aggregate-copy-bytes
+    copy-bytes-requires
+    array-borrow-prefix-list-2
+    slice-aggregate-best
+    best-requires
     (λ c. search needs)
     returns)

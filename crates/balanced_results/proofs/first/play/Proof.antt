@@ -1,4 +1,4 @@
--- `balanced_results::planning::play` meets its contract. Assumes nothing.
+-- `balanced_results::first::play` meets its contract. Assumes nothing.
 use borrow.Author.Needs.{needs}
 use mathlib.Core.Path.{_≡_, refl, sym, _∙_}
 use mathlib.Core.List.{List}
@@ -15,8 +15,8 @@ use Rattle.balanced_plan.proofs.Agree.{rounds-agree}
 use Rattle.balanced_results.specs.Plans.{rowKey}
 use Rattle.balanced_results.proofs.FallingLines.{key-few, lines-fall}
 use Rattle.balanced_results.proofs.SurveyRounds.{Sized, lent-room, lent-size, lent-orders, lent-keys, lent-few}
-use Rattle.balanced_results.proofs.planning.play.Statement.{statement}
-use Rattle.balanced_results.proofs.planning.play.Tie as tie
+use Rattle.balanced_results.proofs.first.play.Statement.{statement}
+use Rattle.balanced_results.proofs.first.play.Tie as tie
 
 -- a table by site has room in its array
 fits : (s : tie.Start) → (s .args .m + 1) * s .args .n ≤ mostEntries

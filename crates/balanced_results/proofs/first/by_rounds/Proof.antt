@@ -1,18 +1,16 @@
--- `balanced_results::planning::plan_table` meets its contract. Assumes nothing.
+-- `balanced_results::first::by_rounds` meets its contract. Assumes nothing.
 use borrow.Author.Needs.{needs}
-use mathlib.Core.Path.{_≡_, sym, ap, _∙_}
+use mathlib.Core.Path.{_≡_, sym, _∙_}
 use Prim.Native.Nat.{ℕ}
 use native.Mathlib.Omega.{arith}
 use lib.ListN.{length, take}
 use lib.Seq.{length-take-le}
-use Rattle.counting.proofs.Equations.{along}
-use Rattle.tables.specs.Tables.{StreetTable, valueIn}
-use Rattle.division.specs.Shares.{divisionTotal}
+use Rattle.tables.specs.Tables.{valueIn}
 use Rattle.balanced_plan.specs.Rounds as plan
-use Rattle.balanced_results.specs.Plans.{dividedBy, rowKey, roundsBy}
-use Rattle.balanced_results.proofs.SurveyRounds.{rounds-ready, state-sites, state-division}
-use Rattle.balanced_results.proofs.planning.plan_table.Statement.{statement}
-use Rattle.balanced_results.proofs.planning.plan_table.Tie as tie
+use Rattle.balanced_results.specs.Plans.{rowKey, roundsBy}
+use Rattle.balanced_results.proofs.SurveyRounds.{rounds-shareable, rounds-begun, state-sites, state-division}
+use Rattle.balanced_results.proofs.first.by_rounds.Statement.{statement}
+use Rattle.balanced_results.proofs.first.by_rounds.Tie as tie
 
 -- ---- once the rounds are played
 abbrev entry : tie.After-play → tie.Start
@@ -23,7 +21,7 @@ abbrev streets : tie.After-play → ℕ
 streets i = length (entry i .args .division .now)
 
 abbrev count : tie.After-play → ℕ
-count i = length (entry i .args .chosen .now)
+count i = length (entry i .args .sites .now)
 
 -- the state after the rounds
 abbrev end : tie.After-play → plan.State
@@ -65,31 +63,26 @@ slice-aggregate-copy-bytes-2 c = sym (division-size (c .before .before .before .
 copy-bytes-requires-2 : tie.Need-copy-bytes-requires-2
 copy-bytes-requires-2 c κs = division-size (c .before .before .before .before .before .before .before .before .before)
 
-improve-requires : tie.Need-improve-requires
-improve-requires c κs =
-    let i = c .before .before .before .before .before in
+share-requires : tie.Need-share-requires
+share-requires c κs =
+    let i = c .before .before .before .before in
     let a = entry (played i) .args in
     let p = entry (played i) .pre in
-    let same = i .copy-bytes2 .kept .1 .0 in
-    let ready =
-    rounds-ready (valueIn (a .values .now) (a .m)) (rowKey (a .m) (a .rows .now)) (streets (played i)) (a .m) (count (played i)) (p .1 .0 .1) (p .1 .0 .2)
-    (p .1 .0 .0) _ _ same (chosen i) (division i) in
-    ((along (λ (j : ℕ). StreetTable j (a .m) (a .values .now)) same (p .0 .0), ready .0), (p .1 .1, ready .1))
+    let ready = rounds-shareable (valueIn (a .values .now) (a .m)) (rowKey (a .m) (a .rows .now)) (streets (played i)) (a .m) (count (played i)) (p .1 .0 .1)
+    (p .1 .0 .2) (p .1 .0 .0) (chosen i) in
+    ((ready, p .0 .0 .few-streets), p .1 .1)
 
 returns : tie.Need-returns
 returns c =
-    let i = c .before .before .before .before .before .before .before .before .before .before in
+    let i = c .before .before .before .before .before .before .before in
     let a = entry (played i) .args in
-    let v = valueIn (a .values .now) (a .m) in
-    let same = i .copy-bytes2 .kept .1 .0 in
-    let best = c .before .before .before .before .improve .ensures in
-    let sites = i .before .before .before .before .before .copy-bytes .last .1 .0 in (
-      best .0 ∙ ap (λ (j : ℕ). divisionTotal v (dividedBy v j (a .m) sites)) same,
-      (best .1 ∙ ap (λ (j : ℕ). dividedBy v j (a .m) sites) same, chosen i),
-    )
+    let p = entry (played i) .pre in
+    let begun = rounds-begun (valueIn (a .values .now) (a .m)) (rowKey (a .m) (a .rows .now)) (streets (played i)) (a .m) (count (played i)) (p .1 .0 .1)
+    (p .1 .0 .2) (p .1 .0 .0) (chosen i) (division i) (c .before .before .share .ensures) in
+    (begun, chosen i)
 
-pub plan-table-spec : {M : Type 1} → statement M
-plan-table-spec =
+pub by-rounds-spec : {M : Type 1} → statement M
+by-rounds-spec =
     tie.close
     (tie.spec
     (λ c κs. search needs)
@@ -99,7 +92,7 @@ plan-table-spec =
     (λ c. search needs)
     slice-aggregate-copy-bytes-2
     copy-bytes-requires-2
-    improve-requires
+    share-requires
     (λ c. search needs)
     (λ c. search needs)
     (λ c. search needs)

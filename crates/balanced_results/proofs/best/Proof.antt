@@ -1,4 +1,4 @@
--- `balanced_results::planning::plan` meets its contract. Assumes nothing.
+-- `balanced_results::best` meets its contract. Assumes nothing.
 use borrow.Author.Needs.{needs}
 use mathlib.Core.Path.{_≡_, sym}
 use Prim.Native.Nat.{ℕ, _+_}
@@ -9,11 +9,11 @@ use Rattle.counting.proofs.Parts.{front-length, front-blank}
 use Rattle.tables.specs.Entries.{Ranked}
 use Rattle.tables.proofs.Filling.{ranked}
 use Rattle.tables.proofs.Tabled.{part-blank, part-room, part-size, street-fits, street-ready, street-same}
-use Rattle.balanced_results.specs.Shareable.{Divides}
+use Rattle.balanced_results.specs.Begun.{Listed}
 use Rattle.balanced_results.proofs.FallingLines.{table-falls}
-use Rattle.balanced_results.proofs.SurveyRounds.{plan-surveyed}
-use Rattle.balanced_results.proofs.planning.plan.Statement.{statement}
-use Rattle.balanced_results.proofs.planning.plan.Tie as tie
+use Rattle.balanced_results.proofs.SurveyRounds.{best-surveyed}
+use Rattle.balanced_results.proofs.best.Statement.{statement}
+use Rattle.balanced_results.proofs.best.Tie as tie
 
 -- once the table is filled
 abbrev entry : tie.After-fill-values → tie.Start
@@ -35,27 +35,26 @@ fill-values-requires c κs = let p = c .before .before .before .before .before .
 array-share-prefix-table : tie.Need-array-share-prefix-table
 array-share-prefix-table c = part-room _ (c .before .fill-values .ensures)
 
-slice-aggregate-plan-table : tie.Need-slice-aggregate-plan-table
-slice-aggregate-plan-table c = part-size _ (c .before .before .fill-values .ensures)
+slice-aggregate-divide-table : tie.Need-slice-aggregate-divide-table
+slice-aggregate-divide-table c = part-size _ (c .before .before .fill-values .ensures)
 
-slice-aggregate-plan-table-2 : tie.Need-slice-aggregate-plan-table-2
-slice-aggregate-plan-table-2 c = sym (shares-size (c .before .before .before .before .before .before .before .before .before .before .before))
+slice-aggregate-divide-table-2 : tie.Need-slice-aggregate-divide-table-2
+slice-aggregate-divide-table-2 c = sym (shares-size (c .before .before .before .before .before .before .before .before .before .before .before))
 
-plan-table-requires : tie.Need-plan-table-requires
-plan-table-requires c κs =
+divide-table-requires : tie.Need-divide-table-requires
+divide-table-requires c κs =
     let i = c .before .before .before .before .before in
     let a = entry i .args in
     let p = entry i .pre in
     let ok = p .0 .0 in
-    let filled = i .fill-values .ensures in
-    let k = length (a .chosen .now) in (
+    let filled = i .fill-values .ensures in (
       (
         street-ready ok _ filled _ (p .1),
         along (λ (j : ℕ). Ranked j (a .m) (a .rows .now)) (p .1) (ranked ok),
         table-falls ok _ _ (p .1) (street-same ok _ filled),
       ),
       (
-        along (λ (j : ℕ). Divides j (a .m) k) (p .1) (p .0 .1),
+        along (λ (j : ℕ). Listed (a .planned) j (a .m) (a .sites .now)) (p .1) (p .0 .1),
         (shares-size (entry i), front-blank (a .m + 1) 65 (omega (arith, ok .few-sites))),
       ),
     )
@@ -65,12 +64,12 @@ returns c =
     let i = c .before .before .before .before .before .before .before .before .before .before .before in
     let a = entry i .args in
     let p = entry i .pre in
-    let t = c .before .before .before .before .before .plan-table .ensures in
-    plan-surveyed _ _ (a .n) (a .m) (length (a .chosen .now)) (a .rows .now) (p .0 .1 .0) (p .0 .1 .1) (p .0 .1 .2)
-    (street-same (p .0 .0) _ (i .fill-values .ensures)) _ (p .1) _ _ _ (t .0) (t .1 .0) (t .1 .1)
+    let t = c .before .before .before .before .before .divide-table .ensures in
+    best-surveyed _ _ (a .n) (a .m) (a .rows .now) (street-same (p .0 .0) _ (i .fill-values .ensures)) (a .planned) (a .sites .now) (p .0 .1) _ (p .1) _ _ _
+    (t .0) (t .1 .0) (t .1 .1)
 
-pub plan-spec : {M : Type 1} → statement M
-plan-spec =
+pub best-spec : {M : Type 1} → statement M
+best-spec =
     tie.close
     (tie.spec
     (λ c. search needs)
@@ -79,10 +78,10 @@ plan-spec =
     slice-aggregate-fill-values
     fill-values-requires
     array-share-prefix-table
-    slice-aggregate-plan-table
+    slice-aggregate-divide-table
     (λ c. search needs)
-    slice-aggregate-plan-table-2
-    plan-table-requires
+    slice-aggregate-divide-table-2
+    divide-table-requires
     (λ c. search needs)
     (λ c. search needs)
     returns)
