@@ -66,7 +66,7 @@ fn front(bytes: &[u8]) -> &[u8] {
 
 // A file that is read, and the first bytes of its rows.
 fn read_in(file: &[u8], rows: &mut [u8], scores: &mut [u16]) {
-    say_read(planner::read_file(file, rows, scores));
+    say_read(planner::read_file(file, scores, rows));
     say::buffer(b" rows", front(rows));
 }
 

@@ -58,7 +58,7 @@ fn fill_rows(file: &[u8], n: usize, m: usize, rows: &mut [u8])
 }
 
 // Both buffers: the first m scores and the first n times m bytes of the rows.
-pub fn fill(file: &[u8], n: usize, m: usize, rows: &mut [u8], scores: &mut [u16])
+pub fn fill(file: &[u8], n: usize, m: usize, scores: &mut [u16], rows: &mut [u8])
     requires { ⌜ (fileRefusal (now file) ≡ 0) × (n ≡ streetsIn (now file)) × (m ≡ sitesIn (now file)) ×
         (length (now rows) ≡ mostRows) × (length (now scores) ≡ mostSites) ⌝ }
     ensures rows { λ _. ⌜ is rows ≡ rowsRead (was file) (was rows) ⌝ }

@@ -37,14 +37,11 @@ unfolding checkedUnless
 check-accepted r zero sizes e z = refl
 check-accepted r (suc x) sizes e z = absurd (suc-ne-zero x (sym e ∙ z))
 
--- the answer to a file has the number of its first refusal
-pub file-number : (file : List ℕ) → checkedNumber (checkedFile file) ≡ fileRefusal file
+-- an answer has the number that it goes by
+pub check-number : (x : ℕ) (sizes : Checked) → checkedNumber sizes ≡ 0 → checkedNumber (checkedUnless x sizes) ≡ x
 unfolding checkedUnless
-file-number file = told (fileRefusal file)
-  where
-    told : (x : ℕ) → checkedNumber (checkedUnless x (sizesIn file)) ≡ x
-    told zero = refl
-    told (suc x) = refl
+check-number zero sizes z = z
+check-number (suc x) sizes z = refl
 
 -- ---- the town, out of all bytes from its mark on
 -- an answer that is a town has its fields

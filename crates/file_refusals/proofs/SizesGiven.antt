@@ -10,6 +10,7 @@ use Rattle.survey_file.specs.Decode.{streetsIn, sitesIn, chosenIn, kindIn}
 use Rattle.file_reader.specs.declared.Checked.{Checked}
 use Rattle.file_reader.specs.declared.Checked.the-variants.{Sizes, Refused}
 use Rattle.file_reader.specs.Checks.{checkedNumber, checkedUnless, sizesIn}
+use Rattle.file_reader.proofs.Whole.{check-number}
 use Rattle.refusals.specs.Inputs.{ReadInput}
 use Rattle.refusals.specs.Refusals.{readRefusal}
 use Rattle.file_refusals.specs.ReadSizes.{SizesTried}
@@ -34,6 +35,10 @@ quiet-unless zero r sizes e z = (refl, e)
 quiet-unless (suc x) r sizes e z = absurd (suc-ne-zero x (sym (ap checkedNumber e) ∙ z))
 
 module _ {i : ReadInput} {r : Checked} (told : SizesTried i r) where
+  -- the answer's number is the first that applies
+  pub first-number : checkedNumber r ≡ readRefusal i
+  first-number = ap checkedNumber (told .answer) ∙ check-number (readRefusal i) (sizesIn (i .file)) refl
+
   -- the answer's number is 0 only with the file's sizes
   right-sizes : checkedNumber r ≡ 0 → (readRefusal i ≡ 0) × (r ≡ sizesIn (i .file))
   right-sizes = quiet-unless (readRefusal i) r (sizesIn (i .file)) (told .answer)

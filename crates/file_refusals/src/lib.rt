@@ -50,8 +50,8 @@ pub fn write_refusal(
 }
 
 // Reading a file into its two buffers: the sizes that its town's record gives, or the number of the first refusal.
-pub fn read_sizes(file: &[u8], rows: &[u8], scores: &[u16]) -> Checked
-    ensures { λ r. ⌜ SizesTried (readLent file rows scores) r ⌝ }
+pub fn read_sizes(file: &[u8], scores: &[u16], rows: &[u8]) -> Checked
+    ensures { λ r. ⌜ SizesTried (readLent file scores rows) r ⌝ }
 {
     if rows.len() != Survey::ROWS {
         return Checked::Refused(6);

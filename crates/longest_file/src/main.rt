@@ -78,7 +78,7 @@ fn there_and_back(
     again: &mut [u8],
 ) {
     say_written(planner::write_file(400, 64, 64, 1, scores, rows, file));
-    say_read(planner::read_file(file, back, table));
+    say_read(planner::read_file(file, table, back));
     say_written(planner::write_file(400, 64, 64, 1, table, back, again));
 }
 

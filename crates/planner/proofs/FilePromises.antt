@@ -78,12 +78,12 @@ module _ {i : WriteInput} {x : ℕ} (tried : Tried writeRefusal i x) where
 
 -- ---- reading
 module _ {i : ReadInput} {x : ℕ} (tried : Tried readRefusal i x) where
-  pub file-refused : (x ≡ 0 → ⊥) → FileRead i (i .rows) (i .scores) (read.Refused x)
+  pub file-refused : (x ≡ 0 → ⊥) → FileRead i (i .scores) (i .rows) (read.Refused x)
   file-refused h =
       record {
         answer = told-refusal tried h;
-        row-bytes = kept-refused tried h _ _;
         score-numbers = kept-refused tried h _ _;
+        row-bytes = kept-refused tried h _ _;
         back = λ y. absurd (false≢true y);
       }
 
@@ -106,11 +106,11 @@ module _ {i : ReadInput} {n m k kind : ℕ} (given : GivenSizes i n m k kind) wh
 
   -- a file that is not refused was written from what is read of it
   pub file-given : ((j : ℕ) → at (i .file) j < 256) → {rows scores : List ℕ} → rows ≡ rowsRead (i .file) (i .rows)
-      → scores ≡ scoresRead (i .file) (i .scores) → FileRead i rows scores (read.Survey n m k kind)
+      → scores ≡ scoresRead (i .file) (i .scores) → FileRead i scores rows (read.Survey n m k kind)
   file-given bytes rows scores =
       record {
         answer = told-survey given;
-        row-bytes = new-accepted accepted-call (given .quiet) _ _ rows;
         score-numbers = new-accepted accepted-call (given .quiet) _ _ scores;
+        row-bytes = new-accepted accepted-call (given .quiet) _ _ rows;
         back = λ _. record { accepted = decode-accepted (i .file) (parts .0); written-back = encode-decode (i .file) (parts .0) bytes };
       }

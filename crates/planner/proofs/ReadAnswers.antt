@@ -51,7 +51,7 @@ told-survey {i} given =
 told-yes : (x y : ℕ) (t : Bool) → t ≡ true → x ≡ y when t → x ≡ y
 told-yes x y t h e = e ∙ sym (when-yes y t h)
 
-module _ {i : ReadInput} {rows scores : List ℕ} {r : Read} (call : FileRead i rows scores r) where
+module _ {i : ReadInput} {scores rows : List ℕ} {r : Read} (call : FileRead i scores rows r) where
   -- a survey: nothing is refused, and the sizes and the kind are the file's
   pub survey-tells : {n m k kind : ℕ} → r ≡ read.Survey n m k kind → GivenSizes i n m k kind
   survey-tells e =

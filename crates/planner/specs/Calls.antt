@@ -105,13 +105,13 @@ pub record FileWritten (i : WriteInput) (file : List ℕ) (r : Answer) : Type 0 
   -- reading the file gives back the survey
   pub back : accepts r ≡ true → ReadsBack (i .town) (i .k) (i .kind) file (total r)
 
--- survey file reader; `rows` and `scores` are what the two buffers hold afterwards
-pub record FileRead (i : ReadInput) (rows scores : List ℕ) (r : Read) : Type 0 where
+-- survey file reader; `scores` and `rows` are what the two buffers hold afterwards
+pub record FileRead (i : ReadInput) (scores rows : List ℕ) (r : Read) : Type 0 where
   -- the first number that applies, or the sizes and the kind
   pub answer : ReadTold r (readRefusal i) (i .file)
-  -- the first n times m bytes are the rows, and later ones stay
-  pub row-bytes : rows ≡ after (readRefusal i) (rowsRead (i .file) (i .rows)) (i .rows)
   -- the first m numbers are the scores, and later ones stay
   pub score-numbers : scores ≡ after (readRefusal i) (scoresRead (i .file) (i .scores)) (i .scores)
+  -- the first n times m bytes are the rows, and later ones stay
+  pub row-bytes : rows ≡ after (readRefusal i) (rowsRead (i .file) (i .rows)) (i .rows)
   -- what was read is an accepted survey, and writing it gives back the file
   pub back : readAccepts r ≡ true → WritesBack (i .file)

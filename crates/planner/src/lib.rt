@@ -217,15 +217,15 @@ pub fn write_file(
     Answer::Total(size as u32)
 }
 
-// Reads a survey file of any length into a buffer of 25,600 row bytes, of which the first n times m are filled, and one of 64 scores, of which the
-// first m are. Refuses with 6, 12, 13, 1, 2, 3, 4, 8, 14, 15, 10, 11 or 16.
-pub fn read_file(file: &[u8], rows: &mut [u8], scores: &mut [u16]) -> Read
-    ensures { λ r. ⌜ FileRead (readLent file rows scores) (is rows) (is scores) r ⌝ }
+// Reads a survey file of any length into a buffer of 64 scores, of which the first m are filled, and one of 25,600 row bytes, of which the first n
+// times m are. Refuses with 6, 12, 13, 1, 2, 3, 4, 8, 14, 15, 10, 11 or 16.
+pub fn read_file(file: &[u8], scores: &mut [u16], rows: &mut [u8]) -> Read
+    ensures { λ r. ⌜ FileRead (readLent file scores rows) (is scores) (is rows) r ⌝ }
 {
-    let found = file_refusals::read_sizes(file, rows, scores);
+    let found = file_refusals::read_sizes(file, scores, rows);
     let file_reader::Checked::Sizes { n, m, k, kind } = found else {
         return Read::Refused(file_reader::number_of(found));
     };
-    file_filling::fill(file, n, m, rows, scores);
+    file_filling::fill(file, n, m, scores, rows);
     Read::Survey { n, m, k, kind }
 }

@@ -22,19 +22,19 @@ kept-sizes (suc x) file old h = refl
 new-sizes : {i : ReadInput} {n m k kind : ℕ} (old : Sizes) → GivenSizes i n m k kind → sizesOf n m k kind ≡ sizesAfter (readRefusal i) (i .file) old
 new-sizes old g = rw (g .quiet, g .streets, g .sites, g .chosen, g .of-kind) refl
 
-module _ {i : ReadInput} {rows scores : List ℕ} {answer : Read} (told : FileRead i rows scores answer) (old : Sizes) where
+module _ {i : ReadInput} {scores rows : List ℕ} {answer : Read} (told : FileRead i scores rows answer) (old : Sizes) where
   -- a refusal y: the lent numbers hold what they held
-  pub refused-into : {y r : ℕ} → read.Refused y ≡ answer → r ≡ packed y 0 → FileReadInto i rows scores old old r
+  pub refused-into : {y r : ℕ} → read.Refused y ≡ answer → r ≡ packed y 0 → FileReadInto i scores rows old old r
   refused-into e p =
       record {
-        read = record { answer = read.Refused _; is = p; holds = along (λ (x : Read). FileRead i rows scores x) e told };
+        read = record { answer = read.Refused _; is = p; holds = along (λ (x : Read). FileRead i scores rows x) e told };
         sizes = kept-sizes (readRefusal i) (i .file) old (refusal-tells told (sym e) .1);
       }
 
   -- a survey: they hold its sizes and kind
-  pub survey-into : {n m k kind : ℕ} → read.Survey n m k kind ≡ answer → FileReadInto i rows scores old (sizesOf n m k kind) 0
+  pub survey-into : {n m k kind : ℕ} → read.Survey n m k kind ≡ answer → FileReadInto i scores rows old (sizesOf n m k kind) 0
   survey-into e =
       record {
-        read = record { answer = read.Survey _ _ _ _; is = refl; holds = along (λ (x : Read). FileRead i rows scores x) e told };
+        read = record { answer = read.Survey _ _ _ _; is = refl; holds = along (λ (x : Read). FileRead i scores rows x) e told };
         sizes = new-sizes old (survey-tells told (sym e));
       }

@@ -4,16 +4,18 @@ use Prim.Native.Nat.{ℕ, zero, suc, _*_}
 use mathlib.Core.Path.{_≡_}
 use mathlib.Core.List.{List}
 use denote.Ref.{RefT}
-use lib.ListN.{length}
 use denote.Triple.Both.{Both}
-use Rattle.survey.specs.Town.{is}
 use Rattle.survey_file.specs.Decode.{streetsIn, sitesIn, chosenIn, kindIn}
 use Rattle.refusals.specs.Inputs.{ReadInput}
 use Rattle.refusals.specs.Refusals.{readRefusal}
 use Rattle.planner.specs.declared.Checked.{Checked}
 use Rattle.planner.specs.declared.Answer.{Answer}
 use Rattle.planner.specs.Answers.{checkedNumber, number, total, readNumber}
-use Rattle.planner.specs.Calls.{RankedPart, FileRead}
+use Rattle.planner.specs.Calls.{FileRead}
+
+-- the library's version: the year and the number of the last request that it meets
+abbrev pub version : ℕ
+version = 202600
 
 -- an answer as one 64-bit number: the total where nothing is refused, else the refusal's number in the upper half and 0 in the lower
 abbrev pub packed : ℕ → ℕ → ℕ
@@ -32,13 +34,6 @@ PacksChecked = Packs checkedNumber (λ r. 0)
 
 abbrev pub PacksAnswer : (Answer → Type 0) → ℕ → Type 0
 PacksAnswer = Packs number total
-
--- ---- the ranked part
--- the length of the part that the call gives back; since this stands where the row begins, the length says which bytes it is
-pub record PartLength (row : RefT (List ℕ)) (r : ℕ) : Type 0 where
-  pub part : RefT (List ℕ)
-  pub holds : RankedPart row part
-  pub is : r ≡ length (part .now)
 
 -- ---- the reader
 -- the four numbers that it is lent for a file's sizes and kind
@@ -67,8 +62,8 @@ sizesAfter zero file old = sizesOf (streetsIn file) (sitesIn file) (chosenIn fil
 sizesAfter (suc x) file old = old
 
 -- the reader's promise with these
-pub record FileReadInto (i : ReadInput) (rows scores : List ℕ) (before after : Sizes) (r : ℕ) : Type 0 where
+pub record FileReadInto (i : ReadInput) (scores rows : List ℕ) (before after : Sizes) (r : ℕ) : Type 0 where
   -- the call's own promise; the total is 0
-  pub read : Packs readNumber (λ r. 0) (FileRead i rows scores) r
+  pub read : Packs readNumber (λ r. 0) (FileRead i scores rows) r
   -- the sizes and the kind
   pub sizes : after ≡ sizesAfter (readRefusal i) (i .file) before

@@ -1,15 +1,18 @@
 // The library for other languages: every entry of `planner` under a plain name, over numbers and slices, a slice being a pointer and then a length.
-// An answer is one number: the total, or the refusal's number times 2^32. include/planner.h says the same in C's terms.
+// An empty slice may have any address, null too: no code reads or writes behind it, and none looks at an address. An answer is one number: the total,
+// or the refusal's number times 2^32. include/planner.h says the same in C's terms.
 use planner::Answer;
 use planner::Checked;
 use planner::Read;
 ghost use mathlib.Core.Path.{_≡_};
-ghost use Rattle.survey.specs.Town.{is};
+ghost use lib.ListN.{length};
+ghost use Rattle.survey.specs.Town.{was, is};
+ghost use Rattle.survey.specs.Rows.{rankedPart};
 ghost use Rattle.refusals.specs.Inputs.{surveyLent, rowLent, listLent, divisionLent, planLent, handLent, writeLent, readLent};
 ghost use Rattle.planner.specs.Answers.{checkedNumber, number, total};
 ghost use Rattle.planner.specs.Calls.{SurveyChecked, FreePlanned, BalancedPlanned, FreeDivided, BalancedDivided, RowScored};
 ghost use Rattle.planner.specs.Calls.{ListTotalled, FloorGiven, FreeHandTested, BalancedHandTested, FileWritten};
-ghost use Rattle.planner_c.specs.Packed.{packed, PacksChecked, PacksAnswer, PartLength, sizesWere, sizesAre, FileReadInto};
+ghost use Rattle.planner_c.specs.Packed.{version, packed, PacksChecked, PacksAnswer, sizesWere, sizesAre, FileReadInto};
 
 // A refusal as one number: its own in the upper half.
 fn packed_refusal(x: u8) -> u64
@@ -38,6 +41,14 @@ fn packed_answer(answer: Answer) -> u64
     }
 }
 
+// The library's version: the year and the number of the last request that it meets. It rises with every request.
+#[no_mangle]
+pub extern "C" fn planner_version() -> u32
+    ensures { λ r. ⌜ r ≡ version ⌝ }
+{
+    202600
+}
+
 // Checks a survey of n streets and m sites of which k are to be chosen; its total is 0.
 #[no_mangle]
 pub extern "C" fn planner_check_survey(
@@ -55,7 +66,7 @@ pub extern "C" fn planner_check_survey(
 // The length of the ranked part of a row; its bytes are the caller's own. Refuses nothing.
 #[no_mangle]
 pub extern "C" fn planner_ranked_part(row: &[u8]) -> usize
-    ensures { λ r. ⌜ PartLength (row .entry) r ⌝ }
+    ensures { λ r. ⌜ r ≡ length (rankedPart (was row)) ⌝ }
 {
     planner::ranked_part(row).len()
 }
@@ -200,21 +211,21 @@ pub extern "C" fn planner_write_file(
     packed_answer(planner::write_file(n, m, k, kind, scores, rows, file))
 }
 
-// Reads a survey file of any length into a buffer of 25,600 row bytes and one of 64 scores; its sizes and kind come back through four lent numbers,
+// Reads a survey file of any length into a buffer of 64 scores and one of 25,600 row bytes; its sizes and kind come back through four lent numbers,
 // which a refusal leaves as they were. The total is 0.
 #[no_mangle]
 pub extern "C" fn planner_read_file(
     file: &[u8],
-    rows: &mut [u8],
-    scores: &mut [u16],
     n: &mut usize,
     m: &mut usize,
     k: &mut usize,
     kind: &mut usize,
+    scores: &mut [u16],
+    rows: &mut [u8],
 ) -> u64
-    ensures { λ r. ⌜ FileReadInto (readLent file rows scores) (is rows) (is scores) (sizesWere n m k kind) (sizesAre n m k kind) r ⌝ }
+    ensures { λ r. ⌜ FileReadInto (readLent file scores rows) (is scores) (is rows) (sizesWere n m k kind) (sizesAre n m k kind) r ⌝ }
 {
-    let answer = planner::read_file(file, rows, scores);
+    let answer = planner::read_file(file, scores, rows);
     match answer {
         Read::Refused(x) => packed_refusal(x),
         Read::Survey {

@@ -46,7 +46,7 @@ pub record SurveyRead (file rows scores : List ℕ) (n m k kind : ℕ) : Type 0 
   pub asked : SurveyAsked (townOf n m (take m scores) (take (n * m) rows)) k kind
   pub text : planText (townOf n m (take m scores) (take (n * m) rows)) k kind ≡ printed file
 
-module _ {i : ReadInput} {rows scores : List ℕ} {r : Read} (given : FileRead i rows scores r) (long : length (i .rows) ≡ mostRows)
+module _ {i : ReadInput} {scores rows : List ℕ} {r : Read} (given : FileRead i scores rows r) (long : length (i .rows) ≡ mostRows)
     (wide : length (i .scores) ≡ mostSites) where
   -- buffers of the right lengths refuse nothing
   file-decides : readRefusal i ≡ fileRefusal (i .file)

@@ -7,6 +7,7 @@ ghost use Prim.Native.Nat.{_≤_};
 ghost use lib.ListN.{length};
 ghost use Rattle.counting.specs.Buffers.{Written};
 ghost use Rattle.survey.specs.Town.{townOf, was, is, town};
+ghost use Rattle.survey_file.specs.Encode.{mostFile};
 ghost use Rattle.refusals.specs.Inputs.{planOf};
 ghost use Rattle.listing.specs.Listing.{mostText};
 ghost use Rattle.printing.specs.Texts.{answerText, planText, printed};
@@ -132,12 +133,13 @@ fn print_held(survey: Survey, out: &mut [u8]) -> usize
 // empty at first; the reader fills its buffers, and the plan is made from it.
 pub fn print(file: &[u8], out: &mut [u8]) -> usize
     requires { ⌜ mostText ≤ length (now out) ⌝ }
-    ensures { λ r. ⌜ Written (was out) 0 (printed (was file)) (is out) r ⌝ }
+    ensures text { λ r. ⌜ Written (was out) 0 (printed (was file)) (is out) r ⌝ }
+    ensures longest { λ _. do ⌜ (← ⟦Survey::FILE⟧ .entry) ≡ mostFile ⌝ }
 {
     let empty = Survey::empty();
     let mut rows = empty.rows;
     let mut scores = empty.scores;
-    let answer = planner::read_file(file, &mut rows, &mut scores);
+    let answer = planner::read_file(file, &mut scores, &mut rows);
     match answer {
         Read::Survey { n, m, k, kind } => print_held(
             Survey {

@@ -91,14 +91,14 @@ writeOf t k kind file = record { town = t; k = k; kind = kind; file = file }
 abbrev pub writeLent : ℕ → ℕ → ℕ → ℕ → Lent → Lent → Lent → WriteInput
 writeLent n m k kind scores rows file = writeOf (town n m scores rows) k kind (was file)
 
--- a file, and buffers for its rows and scores
+-- a file, and buffers for its scores and rows
 pub record ReadInput : Type 0 where
   pub file : List ℕ
-  pub rows : List ℕ
   pub scores : List ℕ
+  pub rows : List ℕ
 
 abbrev pub readOf : List ℕ → List ℕ → List ℕ → ReadInput
-readOf file rows scores = record { file = file; rows = rows; scores = scores }
+readOf file scores rows = record { file = file; scores = scores; rows = rows }
 
 abbrev pub readLent : Lent → Lent → Lent → ReadInput
-readLent file rows scores = readOf (was file) (was rows) (was scores)
+readLent file scores rows = readOf (was file) (was scores) (was rows)

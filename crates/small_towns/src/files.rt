@@ -149,7 +149,7 @@ fn refused_outcome(x: u8, scores: &[u16], rows: &[u8]) -> u8 {
 fn outcome(file: &[u8]) -> u8 {
     let mut rows = [UNTOUCHED; ROWS];
     let mut scores = [UNSCORED; SCORES];
-    let answer = planner::read_file(file, &mut rows, &mut scores);
+    let answer = planner::read_file(file, &mut scores, &mut rows);
     match answer {
         Read::Survey { n, m, k, kind } => read_outcome(n, m, k, kind, &scores, &rows, file),
         Read::Refused(x) => refused_outcome(x, &scores, &rows),

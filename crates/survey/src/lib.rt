@@ -1,7 +1,7 @@
-ghost use Rattle.counting.specs.Bounds.{mostStreets, mostSites, topScore, mostRows};
 // The survey: its bounds, its rows and scores, and what is turned down in it.
 ghost use mathlib.Core.Path.{_≡_};
 ghost use lib.ListN.{replicate};
+ghost use Rattle.counting.specs.Bounds.{mostStreets, mostSites, topScore, mostRows};
 
 pub mod check;
 mod quick;

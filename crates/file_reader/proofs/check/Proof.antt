@@ -38,7 +38,6 @@ use Rattle.file_reader.specs.declared.Checked.{Checked}
 use Rattle.file_reader.specs.Checks.{checkedFile}
 use Rattle.file_reader.proofs.Checked as Y
 use Rattle.file_reader.proofs.Checked.Laws as Y′
-use Rattle.file_reader.proofs.Whole.{file-number}
 use Rattle.file_reader.proofs.Carried.{lent, start, FileOwns, ReaderOwns}
 use Rattle.file_reader.proofs.ReaderCalls.{New, Token, gives, calls, calls-new}
 use Rattle.file_reader.proofs.reader.new.Symbol as new-def
@@ -87,7 +86,7 @@ module _ {M : Type 1} (𝓤 : URA M) (H : Heap 𝓤) (A : Atoms 𝓤) (W : Given
   exits u =
       qed W (‵ (Y.the-row .own answer (u ∷ [])) ∷ Token κ q ∷ ‵ (FileOwns κ s) ∷ []) ∵
       suffices ! _ (ends-at 𝓤 H A check.ended stayed (check.clauses 𝓤 H A mem run) W (((κ, tt), (q, tt), tt, (s, tt), (lent s ∷ [], tt)), tt) u answer
-      (tt, tt) (tt, tt)) $ says ! (file-number (s .now), refl) $
+      (tt, tt) (tt, tt)) $ says ! refl $
       move ! (1 ∷ []) $ frame ! $ nothing ! $ move ! (2 ∷ 0 ∷ []) $ fjoin ! $ frame ! $ done !
 
   module _ (C : Calls 𝓤 H) (Λ : Loops 𝓤 H) (fm : FmC 𝓤 H (W .laws) C) (known-new : Triple 𝓤 (C #file-reader·reader·new) (New 𝓤 H A mem run))

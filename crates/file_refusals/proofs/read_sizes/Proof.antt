@@ -14,22 +14,20 @@ use Rattle.file_refusals.proofs.read_sizes.Tie as tie
 returns : tie.Need-returns
 returns c =
     let first = refuse-unless 6 _ _ (lit< tt) (ne-eqb _ _ (c .if1 .taken)) in
-    record { tried = record { first = first }; answer = check-refused 6 _ _ first (λ e. omega arith) }
+    record { answer = check-refused 6 _ _ first (λ e. omega arith) }
 
 returns-2 : tie.Need-returns-2
 returns-2 c =
     let second = refuse-unless 6 _ _ (lit< tt) (ne-eqb _ _ (c .if2 .taken)) in
     let first = skip-unless _ 6 _ _ (eq-eqb _ _ (c .before .if1 .left)) second in
-    record { tried = record { first = first }; answer = check-refused 6 _ _ first (λ e. omega arith) }
+    record { answer = check-refused 6 _ _ first (λ e. omega arith) }
 
 returns-3 : tie.Need-returns-3
 returns-3 c =
     let tried = c .before in
     let same = skip-unless _ 6 _ _ (eq-eqb _ _ (tried .before .if1 .left)) (skip-unless _ 6 _ _ (eq-eqb _ _ (tried .if2 .left)) refl) in
-    record {
-      tried = record { first = c .check .ensures .0 ∙ same };
-      answer = c .check .ensures .1 ∙ ap (λ (x : ℕ). checkedUnless x (sizesIn (tried .before .before .before .before .before .args .file .now))) same;
-    }
+    let file = tried .before .before .before .before .before .args .file .now in
+    record { answer = c .check .ensures ∙ ap (λ (x : ℕ). checkedUnless x (sizesIn file)) same }
 
 pub read-sizes-spec : {M : Type 1} → statement M
 read-sizes-spec =

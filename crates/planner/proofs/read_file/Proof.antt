@@ -2,7 +2,7 @@
 use borrow.Author.Needs.{needs}
 use mathlib.Core.Path.{sym, _∙_}
 use native.Mathlib.Omega.{arith}
-use Rattle.file_refusals.proofs.SizesGiven.{sizes-given, sizes-refused}
+use Rattle.file_refusals.proofs.SizesGiven.{first-number, sizes-given, sizes-refused}
 use Rattle.planner.proofs.FilePromises.{file-refused, fill-ready, file-given}
 use Rattle.planner.proofs.read_file.Statement.{statement}
 use Rattle.planner.proofs.read_file.Tie as tie
@@ -10,7 +10,7 @@ use Rattle.planner.proofs.read_file.Tie as tie
 returns : tie.Need-returns
 returns c =
     let told = c .before .before .before .read-sizes .ensures in
-    file-refused (record { first = c .number-of .ensures ∙ told .tried .first })
+    file-refused (record { first = c .number-of .ensures ∙ first-number told })
     (λ z. sizes-refused told (c .before .enum-told .given .1) (sym (c .number-of .ensures) ∙ z))
 
 fill-requires : tie.Need-fill-requires

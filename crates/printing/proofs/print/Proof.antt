@@ -2,7 +2,7 @@
 use borrow.Author.Needs.{needs}
 use native.Mathlib.Omega.{arith}
 use native.Mathlib.Nat.{le-trans}
-use mathlib.Core.Path.{_≡_, ap, _∙_}
+use mathlib.Core.Path.{_≡_, refl, ap, _∙_}
 use mathlib.Core.List.{List}
 use Prim.Native.Nat.{ℕ}
 use lib.ListN.{length, length-replicate}
@@ -30,16 +30,16 @@ abbrev entry : tie.After-read-file → tie.Start
 entry r = at-empty r .before .before .before
 
 abbrev rows : tie.After-read-file → List ℕ
-rows r = r .read-file .last .1 .0
+rows r = r .read-file .last .1 .1 .0
 
 abbrev scores : tie.After-read-file → List ℕ
-scores r = r .read-file .last .1 .1 .0
+scores r = r .read-file .last .1 .0
 
 rows-long : (r : tie.After-read-file) → length (rows r) ≡ mostRows
-rows-long r = r .read-file .kept .1 .0 ∙ rows-blank (at-empty r)
+rows-long r = r .read-file .kept .1 .1 .0 ∙ rows-blank (at-empty r)
 
 scores-wide : (r : tie.After-read-file) → length (scores r) ≡ mostSites
-scores-wide r = r .read-file .kept .1 .1 .0 ∙ scores-blank (at-empty r)
+scores-wide r = r .read-file .kept .1 .0 ∙ scores-blank (at-empty r)
 
 -- ---- once the answer is a survey: it is in the fronts of the buffers
 abbrev reading : tie.After-answer → tie.After-read-file
@@ -75,10 +75,10 @@ write-line-requires c κs =
     start-room _ (refusedLine x) (le-trans (refused-fits x (omega arith)) (entry (refused-reading (c .before .before .before)) .pre))
 
 returns : tie.Need-returns
-returns c = written-same (survey (c .before .before .before .before .before) .text) (c .before .before .print-held .ensures)
+returns c = (written-same (survey (c .before .before .before .before .before) .text) (c .before .before .print-held .ensures), refl)
 
 returns-2 : tie.Need-returns-2
-returns-2 c = written-same (refused (c .before .before .before .before .before .before)) (c .before .before .write-line .ensures)
+returns-2 c = (written-same (refused (c .before .before .before .before .before .before)) (c .before .before .write-line .ensures), refl)
 
 pub print-spec : {M : Type 1} → statement M
 print-spec =
