@@ -105,6 +105,6 @@ module _ {values shares division : List ℕ} {w k : ℕ} {low prices vias : List
       let has : 0 < at shares b = omega (arith, share-tail shares nobody b) in
       let o : b < w = omega (arith, at-within shares b has) in
       let a : ℕ = at division t in
-      let home = rw e at (h .layers l (omega arith) a (sites t lt)) in
+      let here = rw e at (h .layers l (omega arith) a (sites t lt)) in
       let there = rw e at (h .layers l (omega arith) b o) in
-      omega (arith, h .last a (sites t lt), h .last b o, home .same (none .none done a (sites t lt)), there .covers has t lt)
+      omega (arith, h .last a (sites t lt), h .last b o, here .same (none .none done a (sites t lt)), there .covers has t lt)

@@ -43,8 +43,8 @@ sum-tight v d (a ∷ D) (b ∷ E) e h k (suc t) l =
 
 -- a set R of sites that holds the site of street s, and into which no later street from outside comes without a loss
 pub record Cut (v : ℕ → ℕ → ℕ) (d : ℕ → ℕ) (c D : List ℕ) (s : ℕ) (R : ℕ → Bool) : Type 0 where
-  pub home : R (at D s) ≡ true
-  pub shut : (t : ℕ) → s < t → t < length D → R (at D t) ≡ false → (b : ℕ) → 0 < share c b → R b ≡ true → d (at D t) + v t b < d b + v t (at D t)
+  pub own-site : R (at D s) ≡ true
+  pub losing : (t : ℕ) → s < t → t < length D → R (at D t) ≡ false → (b : ℕ) → 0 < share c b → R b ≡ true → d (at D t) + v t b < d b + v t (at D t)
 
 module _ (v : ℕ → ℕ → ℕ) (d : ℕ → ℕ) (c D : List ℕ) (i : InShares D c) (p : Priced v d c D) where
   -- a division in the shares has as many streets as D
@@ -73,8 +73,8 @@ module _ (v : ℕ → ℕ → ℕ) (d : ℕ → ℕ) (c D : List ℕ) (i : InSha
     stays : (t : ℕ) → t < length D → R (at E t) ≡ true → R (at D t) ≡ true
     stays t m h =
         let held : 0 < share c (at E t) = has-share E c j t (omega (arith, long E j)) in
-        let loss : s < t → R (at D t) ≡ false → ⊥ = λ a o. omega (arith, tight E j e t m, k .shut t a m o (at E t) held h) in
-        by-order t s (λ b. rw (before t b) at h) (λ q. rw q (k .home)) (λ a. ⊎-elim (λ o. absurd (loss a o)) (λ y. y) (dichotomy (R (at D t))))
+        let loss : s < t → R (at D t) ≡ false → ⊥ = λ a o. omega (arith, tight E j e t m, k .losing t a m o (at E t) held h) in
+        by-order t s (λ b. rw (before t b) at h) (λ q. rw q (k .own-site)) (λ a. ⊎-elim (λ o. absurd (loss a o)) (λ y. y) (dichotomy (R (at D t))))
 
     -- so none leaves it, for the set's shares stay: one that totals the same, and agrees before street s, leaves s in the set
     pub cut : R (at E s) ≡ true
@@ -85,4 +85,4 @@ module _ (v : ℕ → ℕ → ℕ) (d : ℕ → ℕ) (c D : List ℕ) (i : InSha
         let same : divisionTotal (λ t. inside) D ≡ divisionTotal (λ t. inside) E = omega (arith, cost inside D c i, cost inside E c j) in
         let none : divisionTotal (λ t. free) E ≡ divisionTotal (λ t. free) D = omega (arith, divisionTotal-even 0 D, divisionTotal-even 0 E) in
         let even : Tight (λ t. inside) free D s (at E s) = sum-tight (λ t. inside) free D E (long E j) close (omega arith) s l in
-        ⊎-elim (λ o. absurd (omega (arith, rw (o, k .home) at even))) (λ y. y) (dichotomy (R (at E s)))
+        ⊎-elim (λ o. absurd (omega (arith, rw (o, k .own-site) at even))) (λ y. y) (dichotomy (R (at E s)))

@@ -235,6 +235,6 @@ module _ {v : ℕ → ℕ → ℕ} {d : ℕ → ℕ} {D : List ℕ} {s w : ℕ} 
       → Grown v d D s w k sites streets nexts flags k → Cut v d c D s (flag flags)
   cut-of c p g =
       record {
-        home = rw (g .queue .start) at (g .placed .each 0 (g .some));
-        shut = λ t a l o b h y. let (j, m, e) = g .placed .only b y in lt-of-le-of-ne (p t l b h) (rw e at (g .done j m t (omega arith) l a o));
+        own-site = rw (g .queue .start) at (g .placed .each 0 (g .some));
+        losing = λ t a l o b h y. let (j, m, e) = g .placed .only b y in lt-of-le-of-ne (p t l b h) (rw e at (g .done j m t (omega arith) l a o));
       }

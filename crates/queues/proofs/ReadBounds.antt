@@ -12,7 +12,7 @@ use borrow.Author.Tests.{eqb-true, eqb-false}
 use Rattle.counting.specs.Bounds.{mostStreets, mostWidth, mostEntries, mostValue, mostPrice}
 use Rattle.counting.specs.Lists.{at, cell}
 use Rattle.counting.proofs.Tables.{in-rows}
-use Rattle.queues.specs.Queue.{Scene, Tells, Room, flag, Placed, Grown}
+use Rattle.queues.specs.Queue.{PricedTable, Tells, Room, flag, Placed, Grown}
 use Rattle.queues.specs.Tights.{RowOf, Rowed, mostTights, Rows}
 use Rattle.queues.proofs.QueueGrowth.{placed-fits, placed-room}
 use Rattle.queues.proofs.TightRows.{place-row, row-fits}
@@ -32,8 +32,8 @@ pub record Weighed (values prices : List ℕ) (w t x y : ℕ) : Type 0 where
   pub left : at prices x + cell values w t y ≤ mostPrice + mostValue
   pub right : at prices y + cell values w t x ≤ mostPrice + mostValue
 
--- a scene has all that
-pub weighed : {values prices D : List ℕ} {w : ℕ} (t y : ℕ) → Scene values prices D w → (t < length D) × (y < w)
+-- a priced table has all that
+pub weighed : {values prices D : List ℕ} {w : ℕ} (t y : ℕ) → PricedTable values prices D w → (t < length D) × (y < w)
     → Weighed values prices w t (at D t) y
 weighed {values} {prices} {D} {w} t y h (l, m) =
     let x : ℕ = at D t in
@@ -59,7 +59,7 @@ pub record Joinable (w k : ℕ) (sites : List ℕ) (flags : List Bool) (i x : �
   pub site : at sites i < w
 
 -- places with room have all that
-pub joinable : {values prices D : List ℕ} {w k : ℕ} {streets nexts sites : List ℕ} {flags : List Bool} (i t : ℕ) → Scene values prices D w
+pub joinable : {values prices D : List ℕ} {w k : ℕ} {streets nexts sites : List ℕ} {flags : List Bool} (i t : ℕ) → PricedTable values prices D w
     → Room w streets nexts sites flags → Placed w k sites flags → (i < k) × (t < length D) → Joinable w k sites flags i (at D t)
 joinable {values} {prices} {D} {w} {k} i t h room p (l, m) =
     let site : at D t < w = h .sited t m in
@@ -103,7 +103,7 @@ pub record Walk (v : ℕ → ℕ → ℕ) (d : ℕ → ℕ) (D tights ends sites
 
 -- a place of the queue has all that
 pub walk : {values prices D : List ℕ} {w k : ℕ} {streets nexts sites : List ℕ} {flags : List Bool} {v : ℕ → ℕ → ℕ} {d : ℕ → ℕ} {s : ℕ} {n : ℕ} (i : ℕ)
-    (tights ends : List ℕ) → Scene values prices D w → Room w streets nexts sites flags → (i < k) × (s < length D)
+    (tights ends : List ℕ) → PricedTable values prices D w → Room w streets nexts sites flags → (i < k) × (s < length D)
     → Rows w (length D) tights ends × Rowed v d D tights ends → Grown v d D s w k sites streets nexts flags n → Walk v d D tights ends sites i
 walk {values} {prices} {D} {w} {k} {streets} {nexts} {sites} {flags} {v} {d} {s} {n} i tights ends h room (l, m) (rows, rowed) g =
     let site : at sites i < w = g .placed .within i l in

@@ -13,7 +13,7 @@ use Rattle.counting.specs.Lists.{at}
 use Rattle.division.specs.Prices.{Tight}
 
 -- what the functions are lent and leave as it is: the streets' values in rows of width w, prices, and a division whose sites are below w
-pub record Scene (values prices D : List ℕ) (w : ℕ) : Type 0 where
+pub record PricedTable (values prices D : List ℕ) (w : ℕ) : Type 0 where
   pub rows : length values ≡ length D * w
   pub size : length prices ≡ w
   pub small : (i : ℕ) → at values i ≤ mostValue

@@ -7,7 +7,7 @@ ghost use Prim.Native.Nat.{ℕ, _+_, _≤_, _<_};
 ghost use lib.ListN.{length};
 ghost use Rattle.counting.specs.Lists.{at, cell};
 ghost use Rattle.counting.specs.Buffers.{Mapped};
-ghost use Rattle.queues.specs.Queue.{Scene};
+ghost use Rattle.queues.specs.Queue.{PricedTable};
 ghost use Rattle.queues.specs.Limits.{Leaver, Limits, Raised, LastAt};
 ghost use Rattle.division.specs.Prices.{Tight};
 
@@ -40,7 +40,7 @@ fn other(
     t: usize,
     y: usize,
 ) -> bool
-    requires { ⌜ Scene (now values) (now prices) (now division) (length (now shares)) ⌝ }
+    requires { ⌜ PricedTable (now values) (now prices) (now division) (length (now shares)) ⌝ }
     requires { ⌜ (t < length (now division)) × (y < length (now shares)) ⌝ }
     ensures { λ r. ⌜ (r ≡ false → 0 < at (now (shares .entry)) y → y ≢ at (now (division .entry)) t
         → Tight (cell (now (values .entry)) (length (now (shares .entry)))) (at (now (prices .entry))) (now (division .entry)) t y → ⊥) ⌝ }
@@ -53,7 +53,7 @@ fn other(
 
 // Whether the street t may leave its site.
 fn leaves(values: &[u32], shares: &[u16], prices: &[u32], division: &[u8], t: usize) -> bool
-    requires { ⌜ Scene (now values) (now prices) (now division) (length (now shares)) ⌝ }
+    requires { ⌜ PricedTable (now values) (now prices) (now division) (length (now shares)) ⌝ }
     requires { ⌜ t < length (now division) ⌝ }
     ensures { λ r. ⌜ (r ≡ false
         → Leaver (cell (now (values .entry)) (length (now (shares .entry)))) (at (now (prices .entry))) (now (shares .entry))
@@ -76,7 +76,7 @@ fn stands(
     t: usize,
     x: usize,
 ) -> bool
-    requires { ⌜ Scene (now values) (now prices) (now division) (length (now shares)) ⌝ }
+    requires { ⌜ PricedTable (now values) (now prices) (now division) (length (now shares)) ⌝ }
     requires { ⌜ t < length (now division) ⌝ }
     ensures yes { λ r. ⌜ (r ≡ true → at (now (division .entry)) t ≡ x) ⌝ }
     ensures no { λ r. ⌜ (r ≡ false → at (now (division .entry)) t ≡ x
@@ -99,7 +99,7 @@ pub fn lower(
     x: usize,
     limits: &mut [u16],
 ) -> bool
-    requires { ⌜ Scene (now values) (now prices) (now division) (length (now shares)) ⌝ }
+    requires { ⌜ PricedTable (now values) (now prices) (now division) (length (now shares)) ⌝ }
     requires { ⌜ (s < length (now division)) × (x < length (now limits)) ⌝ }
     requires { ⌜ Limits (Leaver (cell (now values) (length (now shares))) (at (now prices)) (now shares) (now division)) s (now division) (now limits) ⌝ }
     ensures yes { λ r. ⌜ (r ≡ true → LastAt (now (division .entry)) s (now (limits .exit)) x) ⌝ }

@@ -7,7 +7,7 @@ ghost use mathlib.Core.List.{List};
 ghost use lib.ListN.{length};
 ghost use Rattle.counting.specs.Bounds.{mostStreets};
 ghost use Rattle.counting.specs.Lists.{at, cell};
-ghost use Rattle.queues.specs.Queue.{Scene, Differ, Queue};
+ghost use Rattle.queues.specs.Queue.{PricedTable, Differ, Queue};
 ghost use Rattle.queues.specs.Limits.{Leaver, Limits};
 ghost use Rattle.queues.specs.PathBack.{Lowest, Turned};
 
@@ -22,7 +22,7 @@ fn lower(
     best: usize,
     i: usize,
 ) -> usize
-    requires { ⌜ Scene (now values) (now prices) (now division) w ⌝ }
+    requires { ⌜ PricedTable (now values) (now prices) (now division) w ⌝ }
     requires { ⌜ (s < length (now division)) × (i < length (now sites)) × (at (now sites) i < w) ⌝ }
     requires { ⌜ Lowest (cell (now values) w) (at (now prices)) (now division) s i (now sites) best ⌝ }
     ensures { λ r. ⌜ Lowest (cell (now (values .entry)) w) (at (now (prices .entry))) (now (division .entry)) s (i + 1) (now (sites .entry)) r ⌝ }
@@ -47,7 +47,7 @@ pub fn lowest(
     sites: &[u8],
     count: usize,
 ) -> usize
-    requires { ⌜ Scene (now values) (now prices) (now division) w ⌝ }
+    requires { ⌜ PricedTable (now values) (now prices) (now division) w ⌝ }
     requires { ⌜ (s < length (now division)) × (0 < count) × (count ≤ length (now sites)) × (at (now sites) 0 ≡ at (now division) s) ⌝ }
     requires { ⌜ ((j : ℕ) → j < count → at (now sites) j < w) ⌝ }
     ensures { λ r. ⌜ Lowest (cell (now (values .entry)) w) (at (now (prices .entry))) (now (division .entry)) s count (now (sites .entry)) r ⌝ }

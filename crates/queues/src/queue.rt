@@ -4,13 +4,13 @@ ghost use mathlib.Core.Path.{_≡_};
 ghost use Prim.Native.Nat.{ℕ, _+_, _<_};
 ghost use lib.ListN.{length};
 ghost use Rattle.counting.specs.Lists.{at, cell};
-ghost use Rattle.queues.specs.Queue.{Scene, Tells, Room, Placed, Grown, Growing};
+ghost use Rattle.queues.specs.Queue.{PricedTable, Tells, Room, Placed, Grown, Growing};
 ghost use Rattle.queues.specs.Tights.{Rowed, Rows};
 ghost use Rattle.division.specs.Prices.{Tight, Agree};
 
 // Whether a street is tight for a site: its move there neither gains nor loses, after prices.
 pub fn tight(values: &[u32], prices: &[u32], w: usize, division: &[u8], t: usize, y: usize) -> bool
-    requires { ⌜ Scene (now values) (now prices) (now division) w ⌝ }
+    requires { ⌜ PricedTable (now values) (now prices) (now division) w ⌝ }
     requires { ⌜ (t < length (now division)) × (y < w) ⌝ }
     ensures { λ r. ⌜ Tells r (Tight (cell (now (values .entry)) w) (at (now (prices .entry))) (now (division .entry)) t y) ⌝ }
 {
@@ -28,7 +28,7 @@ pub fn may(
     t: usize,
     y: usize,
 ) -> bool
-    requires { ⌜ Scene (now values) (now prices) (now division) (length (now shares)) ⌝ }
+    requires { ⌜ PricedTable (now values) (now prices) (now division) (length (now shares)) ⌝ }
     requires { ⌜ (t < length (now division)) × (y < length (now shares)) ⌝ }
     ensures { λ r. ⌜ Tells r ((0 < at (now (shares .entry)) y)
         × Tight (cell (now (values .entry)) (length (now (shares .entry)))) (at (now (prices .entry))) (now (division .entry)) t y) ⌝ }
@@ -53,7 +53,7 @@ fn join(
     sites: &mut [u8],
     flags: &mut [bool],
 ) -> usize
-    requires { ⌜ Scene (now values) (now prices) (now division) w ⌝ }
+    requires { ⌜ PricedTable (now values) (now prices) (now division) w ⌝ }
     requires { ⌜ Room w (now streets) (now nexts) (now sites) (now flags) ⌝ }
     requires { ⌜ Placed w count (now sites) (now flags) ⌝ }
     requires { ⌜ (i < count) × (t < length (now division)) ⌝ }
@@ -95,7 +95,7 @@ fn scan(
     sites: &mut [u8],
     flags: &mut [bool],
 ) -> usize
-    requires { ⌜ Scene (now values) (now prices) (now division) w ⌝ }
+    requires { ⌜ PricedTable (now values) (now prices) (now division) w ⌝ }
     requires { ⌜ Room w (now streets) (now nexts) (now sites) (now flags) ⌝ }
     requires { ⌜ (i < count) × (s < length (now division)) ⌝ }
     requires { ⌜ Rows w (length (now division)) (now tights) (now ends)
@@ -156,7 +156,7 @@ pub fn grow(
     sites: &mut [u8],
     flags: &mut [bool],
 ) -> usize
-    requires { ⌜ Scene (now values) (now prices) (now division) w ⌝ }
+    requires { ⌜ PricedTable (now values) (now prices) (now division) w ⌝ }
     requires { ⌜ Room w (now streets) (now nexts) (now sites) (now flags) ⌝ }
     requires { ⌜ s < length (now division) ⌝ }
     requires { ⌜ Rows w (length (now division)) (now tights) (now ends)

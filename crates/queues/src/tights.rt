@@ -4,7 +4,7 @@ ghost use mathlib.Core.Path.{_≡_};
 ghost use Prim.Native.Nat.{_+_, _<_};
 ghost use lib.ListN.{length};
 ghost use Rattle.counting.specs.Lists.{at, cell};
-ghost use Rattle.queues.specs.Queue.{Scene};
+ghost use Rattle.queues.specs.Queue.{PricedTable};
 ghost use Rattle.queues.specs.Tights.{Row, Listed, Rows};
 ghost use Rattle.division.specs.Prices.{Agree};
 
@@ -20,7 +20,7 @@ fn push(
     t: usize,
     tights: &mut [u16],
 ) -> usize
-    requires { ⌜ Scene (now values) (now prices) (now division) w ⌝ }
+    requires { ⌜ PricedTable (now values) (now prices) (now division) w ⌝ }
     requires { ⌜ (t < length (now division)) × (y < w) × (row + length (now division) < length (now tights)) ⌝ }
     requires { ⌜ Row (cell (now values) w) (at (now prices)) (now division) (now tights) row e y t ⌝ }
     ensures { λ r. ⌜ Row (cell (now (values .entry)) w) (at (now (prices .entry))) (now (division .entry)) (now (tights .exit)) row r y (t + 1)
@@ -43,7 +43,7 @@ fn fill_row(
     row: usize,
     tights: &mut [u16],
 ) -> usize
-    requires { ⌜ Scene (now values) (now prices) (now division) w ⌝ }
+    requires { ⌜ PricedTable (now values) (now prices) (now division) w ⌝ }
     requires { ⌜ (y < w) × (row + length (now division) < length (now tights)) × (at (now tights) row ≡ 0) ⌝ }
     ensures { λ r. ⌜ Row (cell (now (values .entry)) w) (at (now (prices .entry))) (now (division .entry)) (now (tights .exit)) row r y
         (length (now (division .entry)))
@@ -66,7 +66,7 @@ fn list_site(
     tights: &mut [u16],
     ends: &mut [u16],
 )
-    requires { ⌜ Scene (now values) (now prices) (now division) (length (now shares)) ⌝ }
+    requires { ⌜ PricedTable (now values) (now prices) (now division) (length (now shares)) ⌝ }
     requires { ⌜ Rows (length (now shares)) (length (now division)) (now tights) (now ends) × (y < length (now shares)) ⌝ }
     requires { ⌜ Listed (cell (now values) (length (now shares))) (at (now prices)) (now division) (now shares) y (now tights) (now ends) ⌝ }
     ensures { λ _. ⌜ Listed (cell (now (values .entry)) (length (now (shares .entry)))) (at (now (prices .entry))) (now (division .entry))
@@ -90,7 +90,7 @@ pub fn list_sites(
     tights: &mut [u16],
     ends: &mut [u16],
 )
-    requires { ⌜ Scene (now values) (now prices) (now division) (length (now shares)) ⌝ }
+    requires { ⌜ PricedTable (now values) (now prices) (now division) (length (now shares)) ⌝ }
     requires { ⌜ Rows (length (now shares)) (length (now division)) (now tights) (now ends) ⌝ }
     ensures { λ _. ⌜ Listed (cell (now (values .entry)) (length (now (shares .entry)))) (at (now (prices .entry))) (now (division .entry))
         (now (shares .entry)) (length (now (shares .entry))) (now (tights .exit)) (now (ends .exit)) ⌝ }

@@ -23,7 +23,7 @@ use Rattle.division.proofs.Counts.{by-order}
 use Rattle.division.proofs.Dual.{Cut, tight, priced-same}
 use Rattle.division.proofs.Ties.{first-start, first-step, first-best}
 use Rattle.division.proofs.ProblemShares.{share-tail, sited}
-use Rattle.queues.specs.Queue.{Scene, flag, Later, Grown}
+use Rattle.queues.specs.Queue.{PricedTable, flag, Later, Grown}
 use Rattle.queues.specs.Limits.{Leaver, Limits, Raised}
 use Rattle.queues.specs.PathBack.{Lowest, Turned}
 use Rattle.queues.specs.Tights.{Listed, Rowed}
@@ -34,9 +34,9 @@ use Rattle.queues.proofs.PathBack.{swapped}
 use Rattle.queues.proofs.LeaveLimits.{limits-next, limits-fewer, limits-move, limits-own}
 
 -- a division in the shares of a problem has its sites below the width
-pub scene-of : {values shares : List ℕ} (prices D : List ℕ) → Problem values shares (length D) → Prices prices (length shares) → InShares D (tail shares)
-    → Scene values prices D (length shares)
-scene-of {values} {shares} prices D problem low i =
+pub priced-table-of : {values shares : List ℕ} (prices D : List ℕ) → Problem values shares (length D) → Prices prices (length shares) → InShares D (tail shares)
+    → PricedTable values prices D (length shares)
+priced-table-of {values} {shares} prices D problem low i =
     record {
       rows = problem .size;
       size = low .0;
@@ -81,8 +81,8 @@ module _ {values shares prices D tights ends limits : List ℕ} {s : ℕ} (pass 
   h = pass .standing
 
   -- what the functions of the queue are lent
-  pub scene : Scene values prices D (length shares)
-  scene = scene-of prices D (pass .problem) (pass .price) (h .within)
+  pub priced-table : PricedTable values prices D (length shares)
+  priced-table = priced-table-of prices D (pass .problem) (pass .price) (h .within)
 
   -- the sites where streets stand have shares, and so their rows
   pub rowed : Rowed v (at prices) D tights ends
@@ -158,8 +158,8 @@ module _ {values shares prices D tights ends limits : List ℕ} {s : ℕ} (pass 
 
       cut : Cut v (at prices) (tail shares) D s (reached limits D s)
       cut = record {
-        home = reached-own limits D s;
-        shut = λ t m n out a held inside. lt-of-le-of-ne (h .priced t n a held) (kept t m n out a held inside);
+        own-site = reached-own limits D s;
+        losing = λ t m n out a held inside. lt-of-le-of-ne (h .priced t n a held) (kept t m n out a held inside);
       }
 
       below : (a : ℕ) → reached limits D s a ≡ true → 0 < share (tail shares) a → Tight v (at prices) D s a → a < b → ⊥

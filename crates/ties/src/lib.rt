@@ -10,7 +10,7 @@ ghost use Rattle.division.specs.Prices.{Priced, Tight};
 ghost use Rattle.division.specs.Shares.{InShares};
 ghost use Rattle.division.specs.Divide.{divide};
 ghost use Rattle.division.specs.Problem.{tail, Problem};
-ghost use Rattle.queues.specs.Queue.{Scene, Room};
+ghost use Rattle.queues.specs.Queue.{PricedTable, Room};
 ghost use Rattle.queues.specs.Limits.{Leaver, Limits, LastAt};
 ghost use Rattle.ties.specs.Standing.{Aim, Prices, Pass};
 
@@ -24,7 +24,7 @@ fn reach(
     b: usize,
     limits: &mut [u16],
 ) -> bool
-    requires { ⌜ Scene (now values) (now prices) (now division) (length (now shares)) ⌝ }
+    requires { ⌜ PricedTable (now values) (now prices) (now division) (length (now shares)) ⌝ }
     requires { ⌜ (s < length (now division)) × (b < length (now shares)) × (length (now shares) ≤ length (now limits)) ⌝ }
     requires { ⌜ Limits (Leaver (cell (now values) (length (now shares))) (at (now prices)) (now shares) (now division)) s (now division) (now limits) ⌝ }
     ensures yes { λ r. ⌜ (r ≡ true → Tight (cell (now (values .entry)) (length (now (shares .entry)))) (at (now (prices .entry))) (now (division .entry)) s b
@@ -51,7 +51,7 @@ fn aim(
     s: usize,
     limits: &mut [u16],
 ) -> usize
-    requires { ⌜ Scene (now values) (now prices) (now division) (length (now shares)) ⌝ }
+    requires { ⌜ PricedTable (now values) (now prices) (now division) (length (now shares)) ⌝ }
     requires { ⌜ (s < length (now division)) × (length (now shares) ≤ length (now limits)) ⌝ }
     requires { ⌜ Limits (Leaver (cell (now values) (length (now shares))) (at (now prices)) (now shares) (now division)) s (now division) (now limits) ⌝ }
     ensures { λ r. ⌜ Aim (cell (now (values .entry)) (length (now (shares .entry)))) (at (now (prices .entry))) (now (shares .entry)) (now (limits .exit))

@@ -8,7 +8,7 @@ use Rattle.counting.specs.Bounds.{mostWidth}
 use Rattle.queues.specs.Tights.{mostTights}
 use Rattle.queues.proofs.TightRows.{rows-same, rows-room}
 use Rattle.queues.proofs.LeaveLimits.{limits-start}
-use Rattle.ties.proofs.PassSteps.{scene-of, standing-start}
+use Rattle.ties.proofs.PassSteps.{priced-table-of, standing-start}
 use Rattle.ties.proofs.settle.Statement.{statement}
 use Rattle.ties.proofs.settle.Tie as tie
 
@@ -29,7 +29,7 @@ list-sites-requires : tie.Need-list-sites-requires
 list-sites-requires c κs =
     let s = entry (c .before .before .before .before .before) in
     let p = s .pre in
-    (scene-of (s .args .prices .now) (s .args .division .now) (p .0) (p .1 .1 .0) (p .1 .0), rows-room _ _ (p .0 .few-sites) (p .0 .few))
+    (priced-table-of (s .args .prices .now) (s .args .division .now) (p .0) (p .1 .1 .0) (p .1 .0), rows-room _ _ (p .0 .few-sites) (p .0 .few))
 
 settle-streets-requires : tie.Need-settle-streets-requires
 settle-streets-requires c κs =
@@ -39,7 +39,7 @@ settle-streets-requires c κs =
     let size = fill .ensures .size ∙ length-replicate {A = ℕ} mostWidth 0 in
     let a = entry (filled (listed c) .before) .args in
     let p = entry (filled (listed c) .before) .pre in
-    let scene = scene-of (a .prices .now) (a .division .now) (p .0) (p .1 .1 .0) (p .1 .0) in
+    let priced-table = priced-table-of (a .prices .now) (a .division .now) (p .0) (p .1 .1 .0) (p .1 .0) in
     let room = rows-room _ _ (p .0 .few-sites) (p .0 .few) in (
       record {
         problem = p .0;
@@ -47,9 +47,9 @@ settle-streets-requires c κs =
         standing = standing-start _ _ _ _ (p .1 .0) (p .1 .1 .1 .0);
         rows = rows-same _ (replicate mostTights 0) (replicate mostWidth 0) (list .last .1 .1 .1 .1 .0) (list .last .1 .1 .1 .1 .1 .0) refl tights ends room;
         listed = list .ensures;
-        fits = omega (arith, scene .few-sites, size);
+        fits = omega (arith, priced-table .few-sites, size);
         limited = limits-start 0 (a .division .now) (replicate mostWidth 0) (fill .last .0) (fill .ensures)
-            (λ s l. omega (arith, scene .sited s l, scene .few-sites, length-replicate {A = ℕ} mostWidth 0));
+            (λ s l. omega (arith, priced-table .sited s l, priced-table .few-sites, length-replicate {A = ℕ} mostWidth 0));
       },
       p .1 .1 .1 .1,
     )

@@ -2,7 +2,7 @@
 use native.Mathlib.Omega.{arith}
 use Rattle.queues.proofs.QueueGrowth.{placed-fits}
 use Rattle.queues.proofs.PathBack.{path-back}
-use Rattle.ties.proofs.PassSteps.{scene, rowed, pass-turned}
+use Rattle.ties.proofs.PassSteps.{priced-table, rowed, pass-turned}
 use Rattle.ties.proofs.settle_far.Statement.{statement}
 use Rattle.ties.proofs.settle_far.Tie as tie
 
@@ -26,7 +26,7 @@ abbrev start : tie.After-grow → tie.Start
 start i = entry (i .before)
 
 grow-requires : tie.Need-grow-requires
-grow-requires c κs = let p = entry c .pre in (scene (p .0), (p .1 .0, (p .1 .1, (p .0 .rows, rowed (p .0)))))
+grow-requires c κs = let p = entry c .pre in (priced-table (p .0), (p .1 .0, (p .1 .1, (p .0 .rows, rowed (p .0)))))
 
 lowest-requires : tie.Need-lowest-requires
 lowest-requires c κs =
@@ -35,7 +35,7 @@ lowest-requires c κs =
     let p = start (grown c) .pre in
     let fits = placed-fits (g .placed) in
     let room = call .kept .1 .1 .1 .1 .1 .1 .1 .1 .1 .0 in
-    (scene (p .0), ((p .1 .1, g .some, omega (arith, p .1 .0 .sites-fit), g .queue .start), g .placed .within))
+    (priced-table (p .0), ((p .1 .1, g .some, omega (arith, p .1 .0 .sites-fit), g .queue .start), g .placed .within))
 
 turn-requires : tie.Need-turn-requires
 turn-requires c κs =

@@ -9,13 +9,13 @@ use Rattle.counting.specs.Lists.{at}
 use Rattle.queues.specs.Queue.{Later}
 use Rattle.queues.proofs.LeaveLimits.{last-street}
 use Rattle.ties.specs.Standing.{Pass}
-use Rattle.ties.proofs.PassSteps.{scene, pass-limited, pass-still, pass-swapped}
+use Rattle.ties.proofs.PassSteps.{priced-table, pass-limited, pass-still, pass-swapped}
 use Rattle.ties.proofs.settle_street.Statement.{statement}
 use Rattle.ties.proofs.settle_street.Tie as tie
 
 -- at the start: the street's own site is one of the sites
 own : (s : tie.Start) → let a = s .args in at (a .division .now) (a .s) < length (a .shares .now)
-own s = scene (s .pre .0) .sited (s .args .s) (s .pre .1 .1)
+own s = priced-table (s .pre .0) .sited (s .args .s) (s .pre .1 .1)
 
 -- before the street has an aim, and once it has one: the limits may be lower
 abbrev entry : tie.After-aim-arg2 → tie.Start
@@ -61,7 +61,7 @@ abbrev loose : tie.After-settle-far → tie.After-tight
 loose i = i .before .before .before .before .before .before .before .before
 
 aim-requires : tie.Need-aim-requires
-aim-requires c κs = let p = entry c .pre in (scene (p .0), ((p .1 .1, p .0 .fits), p .0 .limited))
+aim-requires c κs = let p = entry c .pre in (priced-table (p .0), ((p .1 .1, p .0 .fits), p .0 .limited))
 
 cast-if1 : tie.Need-cast-if1
 cast-if1 c = omega (arith, own (start (c .before .before)), start (c .before .before) .pre .0 .problem .few-sites)
@@ -96,7 +96,7 @@ cast-tight c =
 tight-requires : tie.Need-tight-requires
 tight-requires c κs =
     let e = c .before .before in
-    (scene (start (aimed e) .pre .0), (last e .1 .street, own (start (aimed e))))
+    (priced-table (start (aimed e) .pre .0), (last e .1 .street, own (start (aimed e))))
 
 slice-write-division : tie.Need-slice-write-division
 slice-write-division c = last (away (c .before)) .1 .street
