@@ -1,20 +1,12 @@
 // Our side: the entries of the static library, as a C++ program calls them.
 #pragma once
+#include "../include/planner.h"
 #include "peer.hpp"
 
-extern "C" {
-std::uint64_t planner_check_survey(std::size_t n, std::size_t m, std::size_t k, const std::uint16_t* scores, std::size_t scores_len,
-                                   const std::uint8_t* rows, std::size_t rows_len);
-std::uint64_t planner_free_plan(std::size_t n, std::size_t m, std::size_t k, const std::uint16_t* scores, std::size_t scores_len,
+// Either of the two plans.
+using Entry = std::uint64_t (*)(std::size_t n, std::size_t m, std::size_t k, const std::uint16_t* scores, std::size_t scores_len,
                                 const std::uint8_t* rows, std::size_t rows_len, std::uint8_t* division, std::size_t division_len,
                                 std::uint8_t* chosen, std::size_t chosen_len);
-std::uint64_t planner_balanced_plan(std::size_t n, std::size_t m, std::size_t k, const std::uint16_t* scores, std::size_t scores_len,
-                                    const std::uint8_t* rows, std::size_t rows_len, std::uint8_t* division, std::size_t division_len,
-                                    std::uint8_t* chosen, std::size_t chosen_len);
-}
-
-// Either of the two plans.
-using Entry = decltype(&planner_free_plan);
 
 // A plan by an entry. A refusal is a number of 2^32 or more, so it agrees with no total of the peer's.
 inline Plan ourPlan(Entry entry, const Town& town, std::size_t k) {

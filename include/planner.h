@@ -1,52 +1,35 @@
 /*
  * Bring-site plans: streets, sites and shares. The planner's library for C and every language that can call C.
  *
+ * COMPILE AND LINK, as C99 or C++11 or later, on 64-bit x86 Linux:
+ *   cc -Iinclude town.c target/staticlib/libplanner_c.a      in a clone, after `rt staticlib planner_c`, which proves the archive
+ *   cc town.c $(pkg-config --cflags --libs planner)          after `bindings/install`, with the shared library
+ *   cc town.c $(pkg-config --cflags planner) $(pkg-config --variable=archive planner)      the same, with the archive
+ * A whole program to start from is bindings/c/plan_file.c.
+ *
  * THE SURVEY. n streets (1 to 400), m sites (1 to 64), of which k are to be chosen (1 to m).
  *   scores   m numbers of 16 bits, the score of place 1 first: each 0 to 1,000 and none above the one before.
  *   rows     n rows of m bytes, street 1 first. A row holds site numbers (1 to m), best first, none twice, then zeros. A row
  *            of zeros is an empty list. A site that a street has not ranked scores 0 for it.
  *   A site is one byte. Site 0 is no site: a street that goes to site 0 is unserved.
  *
- * ANSWERS. Except for planner_ranked_part, a function returns one 64-bit number: the total where the call is accepted, else the
- * refusal's number times 2^32. Take it apart with planner_refusal(answer), 0 where the call is accepted, and
+ * PARAMETERS stand in one order everywhere: sizes (n, m, k, kind), scores, rows, what the call is about, what it fills. Only the
+ * reader, which fills all of them, has its file in front. Any numbers may be passed: what is wrong with them is refused.
+ *
+ * BUFFERS. Each is a pointer and, behind it, the number of its elements. Where that number is 0 the pointer may be null; else it
+ * is aligned for its type. A buffer or number that a function writes overlaps nothing else that is lent to the same call. The four
+ * numbers that the reader writes are never null.
+ *
+ * ANSWERS. Except for planner_ranked_part and planner_version, a function returns one 64-bit number: the total where the call is
+ * accepted, else the refusal's number times 2^32. Take it apart with planner_refusal(answer), 0 where the call is accepted, and
  * planner_total(answer), 0 where it is refused. A refused call leaves every buffer and every number it was lent as it was.
  *
  * REFUSALS. A call tries those numbers that concern what it is given, in this order: 1 to 6, then 8 over the scores, then the
  * rows by street and byte, where a byte is tried for 9, 10, 11; then 17, 20, 18, 19, and 7 last. The reader's order stands there.
+ * Where a call is given a list of sites, 3 and 5 are about the list's length.
  *
- *   The planning office:
- *      1  n outside 1 to 400
- *      2  m outside 1 to 64
- *      3  K, or the length of a given list of sites, outside 1 to m
- *      4  kind not 0 or 1
- *      5  K (for a given list, its length) doesn't divide n; in a balanced plan, balanced division, balanced hand plan or floor,
- *         and only there
- *   The calling program:
- *      6  a lent buffer of other than its exact length
- *      7  file buffer shorter than the file to be written
- *   The survey team:
- *      8  a score above 1,000 or above the one before
- *      9  a site number after a zero in a row
- *     10  a site number above m (in a file also 0)
- *     11  a site twice in one list
- *   The file sender:
- *     12  the bytes end inside a record or before one that is due
- *     13  another mark than the one due
- *     14  street number out of turn
- *     15  length above m
- *     16  bytes after EN
- *   The sender of a hand plan or list of sites:
- *     17  a site outside 1 to m (free hand plan: 0 is also allowed)
- *     18  free, more than K sites used, 0 not counted; balanced, not exactly K sites with n / K streets each
- *     19  the claimed total isn't the plan's
- *     20  a site listed twice
- *
- * BUFFERS. Each is a pointer and, behind it, the number of its elements. A pointer is never null, also where that number is 0,
- * and is aligned for its type. A buffer or number that a function writes overlaps nothing else that is lent to the same call.
- * Any numbers may be passed: what is wrong with them is refused.
- *
- * A call uses no heap and less than half a megabyte of stack, and keeps nothing from one call to the next: any number of
- * threads may call at once. Link the archive libplanner_c.a (64-bit x86 Linux).
+ * A call uses no heap and keeps nothing from one call to the next: any number of threads may call at once. The stack that it needs
+ * is named below, call by call.
  */
 #ifndef PLANNER_H
 #define PLANNER_H
@@ -58,25 +41,128 @@
 extern "C" {
 #endif
 
-/* The greatest sizes, for the caller's own buffers. */
-#define PLANNER_STREETS 400
-#define PLANNER_SITES 64
-#define PLANNER_ROWS 25600
-#define PLANNER_FILE 27739
+/* The year and the number of the last request that is in, 00 for the base. planner_version() gives that of the library linked. */
+#define PLANNER_VERSION 202600
+
+/* The greatest sizes and score. */
+#define PLANNER_MAX_STREETS 400
+#define PLANNER_MAX_SITES 64
+#define PLANNER_TOP_SCORE 1000
+
+/* The lengths of the buffers that hold every survey and every file, in elements; the reader's have exactly these. */
+#define PLANNER_SCORES_LENGTH 64
+#define PLANNER_ROWS_LENGTH 25600
+#define PLANNER_FILE_LENGTH 27739
 
 /* The kinds of plan in a survey file. */
 #define PLANNER_FREE 0
 #define PLANNER_BALANCED 1
 
+/*
+ * The bytes of stack that each call needs below its caller's frame, whatever it is lent; PLANNER_STACK_REFUSED is what any call
+ * needs that refuses. Measured, with 256 bytes of room at least (bindings/c/stack.c), where memcpy and memset are bound when the
+ * program starts: linked with -Wl,-z,now, or statically. Where they are bound at first use, that use needs up to 4,096 bytes more.
+ */
+#define PLANNER_STACK_CHECK_SURVEY 3072
+#define PLANNER_STACK_RANKED_PART 512
+#define PLANNER_STACK_ROW_SCORE 1024
+#define PLANNER_STACK_LIST_TOTAL 60928
+#define PLANNER_STACK_FREE_DIVISION 61440
+#define PLANNER_STACK_BALANCED_DIVISION 296448
+#define PLANNER_STACK_FREE_PLAN 61440
+#define PLANNER_STACK_BALANCED_PLAN 296448
+#define PLANNER_STACK_FLOOR 3072
+#define PLANNER_STACK_FREE_HAND 3072
+#define PLANNER_STACK_BALANCED_HAND 5120
+#define PLANNER_STACK_WRITE_FILE 3072
+#define PLANNER_STACK_READ_FILE 1024
+#define PLANNER_STACK_REFUSED 5632
+#define PLANNER_STACK_MOST PLANNER_STACK_BALANCED_PLAN
+
+/*
+ * The refusals: number, name, and what is wrong and what to do about it, under those whose it is. PLANNER_REFUSALS(REFUSAL) stands
+ * for REFUSAL(number, name, text) of each.
+ */
+#define PLANNER_REFUSALS(REFUSAL) \
+    /* the planning office */ \
+    REFUSAL(1, STREETS, "number of streets outside 1 to 400: plan a larger town in parts") \
+    REFUSAL(2, SITES, "number of sites outside 1 to 64: list fewer sites") \
+    REFUSAL(3, CHOSEN, "K, or the length of a list of sites, outside 1 to the number of sites: choose another K") \
+    REFUSAL(4, KIND, "kind of plan not 0 or 1: 0 is free, 1 balanced") \
+    REFUSAL(5, SHARE, "K does not divide the number of streets (balanced plan, division, hand plan and floor): choose a K that divides it, or a free plan") \
+    /* the calling program */ \
+    REFUSAL(6, BUFFER_LENGTH, "a lent buffer of other than its exact length: lend the length that the call names") \
+    REFUSAL(7, FILE_BUFFER_SHORT, "a file buffer shorter than the file: lend 27,739 bytes, the longest file") \
+    /* the survey team */ \
+    REFUSAL(8, SCORE, "a score above 1,000 or above the one before: put the scores in falling order") \
+    REFUSAL(9, SITE_AFTER_ZERO, "a site after a zero in a row: close the gap in the list") \
+    REFUSAL(10, SITE_NUMBER, "a site number above the number of sites (in a file also 0): correct the number") \
+    REFUSAL(11, SITE_TWICE, "a site twice in one list: strike one of the two") \
+    /* the file sender */ \
+    REFUSAL(12, FILE_ENDS, "the file ends early: send it again, whole") \
+    REFUSAL(13, MARK, "another mark than the one due: records come as TN, SC, ST .., EN") \
+    REFUSAL(14, STREET_NUMBER, "a street out of turn: number the streets from 1 in their order") \
+    REFUSAL(15, LIST_LENGTH, "a list longer than the number of sites: correct its length") \
+    REFUSAL(16, BYTES_AFTER_END, "bytes after EN: end the file there") \
+    /* the sender of a hand plan or list */ \
+    REFUSAL(17, SITE_OUTSIDE, "a site outside 1 to the number of sites (a free hand plan may have 0): correct the site") \
+    /* the sender of a hand plan */ \
+    REFUSAL(18, SITES_USED, "a free hand plan with more than K sites; a balanced one whose K sites don't have equal shares: move streets") \
+    REFUSAL(19, CLAIMED_TOTAL, "a claimed total that is not the plan's: add it up again") \
+    /* the sender of a list */ \
+    REFUSAL(20, LISTED_TWICE, "a site listed twice: strike one of the two")
+
+/* PLANNER_REFUSED_STREETS is 1, and so on. */
+enum planner_refusal_number {
+    PLANNER_ACCEPTED = 0,
+#define PLANNER_NUMBERED(number, name, text) PLANNER_REFUSED_##name = number,
+    PLANNER_REFUSALS(PLANNER_NUMBERED)
+#undef PLANNER_NUMBERED
+};
+
 /* The refusal's number, 1 to 20; 0 where the call is accepted. */
 static inline uint32_t planner_refusal(uint64_t answer) {
-    return (uint32_t)(answer >> 32);
+    uint64_t upper = answer >> 32;
+    return upper & 0xffffffffu;
 }
 
 /* The total; 0 where the call is refused. */
 static inline uint32_t planner_total(uint64_t answer) {
-    return (uint32_t)answer;
+    return answer & 0xffffffffu;
 }
+
+/* What is wrong, and what to do: one line of text for the number of a refusal. */
+static inline const char *planner_refusal_text(uint32_t number) {
+    switch (number) {
+    case PLANNER_ACCEPTED: return "accepted";
+#define PLANNER_TEXT(number, name, text) case PLANNER_REFUSED_##name: return text;
+    PLANNER_REFUSALS(PLANNER_TEXT)
+#undef PLANNER_TEXT
+    default: return "no refusal has this number";
+    }
+}
+
+/*
+ * For compilers that know it: that an answer is not to be passed over, which pointers are never null, counted from 1, and that
+ * what is written through a pointer overlaps nothing else.
+ */
+#if defined(__GNUC__)
+#define PLANNER_MUST_USE __attribute__((warn_unused_result))
+#define PLANNER_NONNULL(...) __attribute__((nonnull(__VA_ARGS__)))
+#else
+#define PLANNER_MUST_USE
+#define PLANNER_NONNULL(...)
+#endif
+#if !defined(__cplusplus) && defined(__STDC_VERSION__) && __STDC_VERSION__ >= 199901L
+#define PLANNER_RESTRICT restrict
+#elif defined(__GNUC__) || defined(_MSC_VER)
+#define PLANNER_RESTRICT __restrict
+#else
+#define PLANNER_RESTRICT
+#endif
+
+/* The version of the library that is linked; PLANNER_VERSION is that of this header. */
+uint32_t planner_version(void) PLANNER_MUST_USE;
 
 /*
  * Checks a survey.
@@ -85,7 +171,7 @@ static inline uint32_t planner_total(uint64_t answer) {
  */
 uint64_t planner_check_survey(size_t n, size_t m, size_t k,
                               const uint16_t *scores, size_t scores_len,
-                              const uint8_t *rows, size_t rows_len);
+                              const uint8_t *rows, size_t rows_len) PLANNER_MUST_USE;
 
 /*
  * The length of the ranked part of a row: the number of bytes before its first zero, or all of them if there is none. The ranked
@@ -93,7 +179,7 @@ uint64_t planner_check_survey(size_t n, size_t m, size_t k,
  *   row  any number of bytes, read
  * The number returned is that length and no packed answer. Refuses nothing.
  */
-size_t planner_ranked_part(const uint8_t *row, size_t row_len);
+size_t planner_ranked_part(const uint8_t *row, size_t row_len) PLANNER_MUST_USE;
 
 /*
  * The score that one street's row gives one site.
@@ -103,7 +189,7 @@ size_t planner_ranked_part(const uint8_t *row, size_t row_len);
 uint64_t planner_row_score(size_t m,
                            const uint16_t *scores, size_t scores_len,
                            const uint8_t *row, size_t row_len,
-                           uint8_t site);
+                           uint8_t site) PLANNER_MUST_USE;
 
 /*
  * The total of a list of sites: the sum over the streets of the best score that any of the sites gives.
@@ -114,7 +200,7 @@ uint64_t planner_row_score(size_t m,
 uint64_t planner_list_total(size_t n, size_t m,
                             const uint16_t *scores, size_t scores_len,
                             const uint8_t *rows, size_t rows_len,
-                            const uint8_t *sites, size_t sites_len);
+                            const uint8_t *sites, size_t sites_len) PLANNER_MUST_USE;
 
 /*
  * The free division over a list of sites: each street goes to the listed site that stands best in its list, and to site 0 if it
@@ -128,7 +214,7 @@ uint64_t planner_free_division(size_t n, size_t m,
                                const uint16_t *scores, size_t scores_len,
                                const uint8_t *rows, size_t rows_len,
                                const uint8_t *sites, size_t sites_len,
-                               uint8_t *division, size_t division_len);
+                               uint8_t *PLANNER_RESTRICT division, size_t division_len) PLANNER_MUST_USE;
 
 /*
  * The best balanced division over a list of sites: each site gets the same number of streets, and no such division totals more.
@@ -143,11 +229,12 @@ uint64_t planner_balanced_division(size_t n, size_t m,
                                    const uint16_t *scores, size_t scores_len,
                                    const uint8_t *rows, size_t rows_len,
                                    const uint8_t *sites, size_t sites_len,
-                                   uint8_t *division, size_t division_len);
+                                   uint8_t *PLANNER_RESTRICT division, size_t division_len) PLANNER_MUST_USE;
 
 /*
- * The free plan (Chamberlin-Courant, greedy): k rounds, each of which adds the site that raises the total most, the lowest number
- * on a tie; then each street goes to the chosen site that stands best in its list, and to site 0 if it has ranked none.
+ * The free plan (Chamberlin and Courant's rule, greedy): k rounds, each of which adds the site that raises the total most, the
+ * lowest number on a tie; then each street goes to the chosen site that stands best in its list, and to site 0 if it has ranked
+ * none.
  *   scores    m numbers, read      rows  n * m bytes, read
  *   division  n bytes, written: the site of each street
  *   chosen    k bytes, written: the sites in order of choice
@@ -156,11 +243,11 @@ uint64_t planner_balanced_division(size_t n, size_t m,
 uint64_t planner_free_plan(size_t n, size_t m, size_t k,
                            const uint16_t *scores, size_t scores_len,
                            const uint8_t *rows, size_t rows_len,
-                           uint8_t *division, size_t division_len,
-                           uint8_t *chosen, size_t chosen_len);
+                           uint8_t *PLANNER_RESTRICT division, size_t division_len,
+                           uint8_t *PLANNER_RESTRICT chosen, size_t chosen_len) PLANNER_MUST_USE;
 
 /*
- * The balanced plan (Monroe, Algorithms A and B): k sites chosen in rounds, n / k streets for each, and the best division over
+ * The balanced plan (Monroe's rule, greedy): k sites chosen in rounds, n / k streets for each, and the best division over
  * them.
  *   scores    m numbers, read      rows  n * m bytes, read
  *   division  n bytes, written: the site of each street
@@ -170,8 +257,8 @@ uint64_t planner_free_plan(size_t n, size_t m, size_t k,
 uint64_t planner_balanced_plan(size_t n, size_t m, size_t k,
                                const uint16_t *scores, size_t scores_len,
                                const uint8_t *rows, size_t rows_len,
-                               uint8_t *division, size_t division_len,
-                               uint8_t *chosen, size_t chosen_len);
+                               uint8_t *PLANNER_RESTRICT division, size_t division_len,
+                               uint8_t *PLANNER_RESTRICT chosen, size_t chosen_len) PLANNER_MUST_USE;
 
 /*
  * The floor: a total that the balanced plan of this survey reaches in any case.
@@ -180,7 +267,7 @@ uint64_t planner_balanced_plan(size_t n, size_t m, size_t k,
  */
 uint64_t planner_floor(size_t n, size_t m, size_t k,
                        const uint16_t *scores, size_t scores_len,
-                       const uint8_t *rows, size_t rows_len);
+                       const uint8_t *rows, size_t rows_len) PLANNER_MUST_USE;
 
 /*
  * Tests a hand-made free plan: at most k sites are used, and its streets give them the claimed total.
@@ -193,7 +280,7 @@ uint64_t planner_free_hand(size_t n, size_t m, size_t k,
                            const uint16_t *scores, size_t scores_len,
                            const uint8_t *rows, size_t rows_len,
                            const uint8_t *division, size_t division_len,
-                           uint32_t claimed);
+                           uint32_t claimed) PLANNER_MUST_USE;
 
 /*
  * Tests a hand-made balanced plan: exactly k sites have n / k streets each, and these give them the claimed total.
@@ -206,33 +293,34 @@ uint64_t planner_balanced_hand(size_t n, size_t m, size_t k,
                                const uint16_t *scores, size_t scores_len,
                                const uint8_t *rows, size_t rows_len,
                                const uint8_t *division, size_t division_len,
-                               uint32_t claimed);
+                               uint32_t claimed) PLANNER_MUST_USE;
 
 /*
  * Writes a survey file.
  *   kind    PLANNER_FREE or PLANNER_BALANCED
  *   scores  m numbers, read      rows  n * m bytes, read
- *   file    any number of bytes, written as far as the file goes; PLANNER_FILE bytes are enough for every survey
+ *   file    any number of bytes, written as far as the file goes; PLANNER_FILE_LENGTH bytes are enough for every survey
  * Answer: the file's length. Refuses with 1, 2, 3, 4, 6, 8, 9, 10, 11, and with 7 last.
  */
 uint64_t planner_write_file(size_t n, size_t m, size_t k, size_t kind,
                             const uint16_t *scores, size_t scores_len,
                             const uint8_t *rows, size_t rows_len,
-                            uint8_t *file, size_t file_len);
+                            uint8_t *PLANNER_RESTRICT file, size_t file_len) PLANNER_MUST_USE;
 
 /*
  * Reads a survey file.
  *   file    any number of bytes, read
- *   rows    exactly PLANNER_ROWS bytes: the first n * m are written
- *   scores  exactly PLANNER_SITES numbers: the first m are written
  *   n, m, k, kind  one number each, written: what the file says
+ *   scores  exactly PLANNER_SCORES_LENGTH numbers: the first m are written
+ *   rows    exactly PLANNER_ROWS_LENGTH bytes: the first n * m are written
  * Answer: total 0. Tries 6, then for each record: mark bytes there (12), mark (13), fixed part there (12), fields in order of
  * number (1, 2, 3, 4; 8; 14, 15), list there (12), each list byte for 10, then 11. After EN it tries 16.
  */
 uint64_t planner_read_file(const uint8_t *file, size_t file_len,
-                           uint8_t *rows, size_t rows_len,
-                           uint16_t *scores, size_t scores_len,
-                           size_t *n, size_t *m, size_t *k, size_t *kind);
+                           size_t *PLANNER_RESTRICT n, size_t *PLANNER_RESTRICT m,
+                           size_t *PLANNER_RESTRICT k, size_t *PLANNER_RESTRICT kind,
+                           uint16_t *PLANNER_RESTRICT scores, size_t scores_len,
+                           uint8_t *PLANNER_RESTRICT rows, size_t rows_len) PLANNER_MUST_USE PLANNER_NONNULL(3, 4, 5, 6);
 
 #ifdef __cplusplus
 }

@@ -1,4 +1,4 @@
-/* Every function of include/planner.h once from C, on document 01's first worked survey; prints what differs and ends with 1, or ends with 0. */
+/* Every function of include/planner.h from C, on the worked survey P1; prints what differs and ends with 1, or ends with 0. */
 #include <stdio.h>
 #include <string.h>
 
@@ -11,6 +11,10 @@ static void expect(int holds, const char *what) {
         printf("differs: %s\n", what);
         differences = 1;
     }
+}
+
+static void expect_refusal(uint64_t answer, uint32_t number, const char *what) {
+    expect(planner_refusal(answer) == number && planner_total(answer) == 0, what);
 }
 
 /* n 4, m 3, K 2, lists 1 2 3 / 1 3 2 / 2 1 / 3 2 1. */
@@ -40,30 +44,108 @@ static void numbers(void) {
     expect(planner_floor(4, 3, 2, scores, 3, rows, 12) == 2, "the floor");
     expect(planner_free_hand(4, 3, 2, scores, 3, rows, 12, plan, 4, 7) == 7, "the free hand plan");
     expect(planner_balanced_hand(4, 3, 2, scores, 3, rows, 12, plan, 4, 7) == 7, "the balanced hand plan");
+    expect(planner_version() == PLANNER_VERSION, "the version");
 }
 
 static void files(void) {
-    uint8_t file[PLANNER_FILE], read_rows[PLANNER_ROWS];
-    uint16_t read_scores[PLANNER_SITES];
+    uint8_t file[PLANNER_FILE_LENGTH], read_rows[PLANNER_ROWS_LENGTH];
+    uint16_t read_scores[PLANNER_SCORES_LENGTH];
     size_t n, m, k, kind;
-    uint64_t length = planner_write_file(4, 3, 2, PLANNER_BALANCED, scores, 3, rows, 12, file, PLANNER_FILE);
-    expect(length == 48, "the file's length");
-    expect(planner_read_file(file, (size_t)length, read_rows, PLANNER_ROWS, read_scores, PLANNER_SITES, &n, &m, &k, &kind) == 0, "the reading");
+    uint64_t answer = planner_write_file(4, 3, 2, PLANNER_BALANCED, scores, 3, rows, 12, file, PLANNER_FILE_LENGTH);
+    expect(answer == 48, "the file's length");
+    answer = planner_read_file(file, 48, &n, &m, &k, &kind, read_scores, PLANNER_SCORES_LENGTH, read_rows, PLANNER_ROWS_LENGTH);
+    expect(answer == 0, "the reading");
     expect(n == 4 && m == 3 && k == 2 && kind == PLANNER_BALANCED, "the sizes read");
     expect(!memcmp(read_rows, rows, 12) && !memcmp(read_scores, scores, sizeof scores), "what was read");
 }
 
-static void refusals(void) {
+/* A null pointer with length 0 for each buffer of the calls that only read. */
+static void null_read(void) {
+    expect(planner_ranked_part(NULL, 0) == 0, "the ranked part of no bytes");
+    expect_refusal(planner_check_survey(4, 3, 2, NULL, 0, rows, 12), 6, "the check without scores");
+    expect_refusal(planner_check_survey(4, 3, 2, scores, 3, NULL, 0), 6, "the check without rows");
+    expect_refusal(planner_row_score(3, NULL, 0, rows, 3, 2), 6, "the row's score without scores");
+    expect_refusal(planner_row_score(3, scores, 3, NULL, 0, 2), 6, "the row's score without a row");
+    expect_refusal(planner_list_total(4, 3, NULL, 0, rows, 12, sites, 2), 6, "the list's total without scores");
+    expect_refusal(planner_list_total(4, 3, scores, 3, NULL, 0, sites, 2), 6, "the list's total without rows");
+    expect_refusal(planner_list_total(4, 3, scores, 3, rows, 12, NULL, 0), 3, "the list's total without sites");
+    expect_refusal(planner_floor(4, 3, 2, NULL, 0, rows, 12), 6, "the floor without scores");
+    expect_refusal(planner_floor(4, 3, 2, scores, 3, NULL, 0), 6, "the floor without rows");
+}
+
+static void null_hand_plans(void) {
+    expect_refusal(planner_free_hand(4, 3, 2, NULL, 0, rows, 12, plan, 4, 7), 6, "the free hand plan without scores");
+    expect_refusal(planner_free_hand(4, 3, 2, scores, 3, NULL, 0, plan, 4, 7), 6, "the free hand plan without rows");
+    expect_refusal(planner_free_hand(4, 3, 2, scores, 3, rows, 12, NULL, 0, 7), 6, "the free hand plan without a division");
+    expect_refusal(planner_balanced_hand(4, 3, 2, NULL, 0, rows, 12, plan, 4, 7), 6, "the balanced hand plan without scores");
+    expect_refusal(planner_balanced_hand(4, 3, 2, scores, 3, NULL, 0, plan, 4, 7), 6, "the balanced hand plan without rows");
+    expect_refusal(planner_balanced_hand(4, 3, 2, scores, 3, rows, 12, NULL, 0, 7), 6, "the balanced hand plan without a division");
+}
+
+static void null_divisions(void) {
+    uint8_t division[4];
+    expect_refusal(planner_free_division(4, 3, NULL, 0, rows, 12, sites, 2, division, 4), 6, "the free division without scores");
+    expect_refusal(planner_free_division(4, 3, scores, 3, NULL, 0, sites, 2, division, 4), 6, "the free division without rows");
+    expect_refusal(planner_free_division(4, 3, scores, 3, rows, 12, NULL, 0, division, 4), 3, "the free division without sites");
+    expect_refusal(planner_free_division(4, 3, scores, 3, rows, 12, sites, 2, NULL, 0), 6, "the free division into no bytes");
+    expect_refusal(planner_balanced_division(4, 3, NULL, 0, rows, 12, sites, 2, division, 4), 6, "the balanced division without scores");
+    expect_refusal(planner_balanced_division(4, 3, scores, 3, NULL, 0, sites, 2, division, 4), 6, "the balanced division without rows");
+    expect_refusal(planner_balanced_division(4, 3, scores, 3, rows, 12, NULL, 0, division, 4), 3, "the balanced division without sites");
+    expect_refusal(planner_balanced_division(4, 3, scores, 3, rows, 12, sites, 2, NULL, 0), 6, "the balanced division into no bytes");
+}
+
+static void null_plans(void) {
+    uint8_t division[4], chosen[2];
+    expect_refusal(planner_free_plan(4, 3, 2, NULL, 0, rows, 12, division, 4, chosen, 2), 6, "the free plan without scores");
+    expect_refusal(planner_free_plan(4, 3, 2, scores, 3, NULL, 0, division, 4, chosen, 2), 6, "the free plan without rows");
+    expect_refusal(planner_free_plan(4, 3, 2, scores, 3, rows, 12, NULL, 0, chosen, 2), 6, "the free plan without a division");
+    expect_refusal(planner_free_plan(4, 3, 2, scores, 3, rows, 12, division, 4, NULL, 0), 6, "the free plan without chosen sites");
+    expect_refusal(planner_balanced_plan(4, 3, 2, NULL, 0, rows, 12, division, 4, chosen, 2), 6, "the balanced plan without scores");
+    expect_refusal(planner_balanced_plan(4, 3, 2, scores, 3, NULL, 0, division, 4, chosen, 2), 6, "the balanced plan without rows");
+    expect_refusal(planner_balanced_plan(4, 3, 2, scores, 3, rows, 12, NULL, 0, chosen, 2), 6, "the balanced plan without a division");
+    expect_refusal(planner_balanced_plan(4, 3, 2, scores, 3, rows, 12, division, 4, NULL, 0), 6, "the balanced plan without chosen sites");
+}
+
+static void null_files(void) {
+    uint8_t file[48], read_rows[PLANNER_ROWS_LENGTH];
+    uint16_t read_scores[PLANNER_SCORES_LENGTH];
+    size_t n = 1, m = 2, k = 3, kind = 4;
+    expect_refusal(planner_write_file(4, 3, 2, 0, NULL, 0, rows, 12, file, 48), 6, "the writing without scores");
+    expect_refusal(planner_write_file(4, 3, 2, 0, scores, 3, NULL, 0, file, 48), 6, "the writing without rows");
+    expect_refusal(planner_write_file(4, 3, 2, 0, scores, 3, rows, 12, NULL, 0), 7, "the writing into no bytes");
+    expect(planner_write_file(4, 3, 2, 0, scores, 3, rows, 12, file, 48) == 48, "the writing into just enough bytes");
+    uint64_t answer = planner_read_file(NULL, 0, &n, &m, &k, &kind, read_scores, PLANNER_SCORES_LENGTH, read_rows, PLANNER_ROWS_LENGTH);
+    expect_refusal(answer, 12, "the reading of no bytes");
+    answer = planner_read_file(file, 48, &n, &m, &k, &kind, NULL, 0, read_rows, PLANNER_ROWS_LENGTH);
+    expect_refusal(answer, 6, "the reading without scores");
+    answer = planner_read_file(file, 48, &n, &m, &k, &kind, read_scores, PLANNER_SCORES_LENGTH, NULL, 0);
+    expect_refusal(answer, 6, "the reading without rows");
+    expect(n == 1 && m == 2 && k == 3 && kind == 4, "the sizes after refused readings");
+}
+
+static void texts(void) {
+    const char *none = "no refusal has this number";
+    expect(!strcmp(planner_refusal_text(PLANNER_ACCEPTED), "accepted"), "the text of 0");
+    for (uint32_t number = 1; number <= 20; number++) {
+        expect(strcmp(planner_refusal_text(number), none), "a text for each number");
+    }
+    expect(!strcmp(planner_refusal_text(21), none) && !strcmp(planner_refusal_text(UINT32_MAX), none), "the text of other numbers");
     uint64_t answer = planner_floor(4, 3, 3, scores, 3, rows, 12);
-    expect(planner_refusal(answer) == 5 && planner_total(answer) == 0, "a refusal");
-    answer = planner_list_total(4, 3, scores, 3, rows, 12, sites, 2);
-    expect(planner_refusal(answer) == 0 && planner_total(answer) == 7, "an answer");
+    expect_refusal(answer, PLANNER_REFUSED_SHARE, "the floor with a K that does not divide");
+    answer = planner_floor(0, 3, 2, scores, 3, rows, 12);
+    expect(!strcmp(planner_refusal_text(planner_refusal(answer)),
+                   "number of streets outside 1 to 400: plan a larger town in parts"), "the text of 1");
 }
 
 int main(void) {
     plans();
     numbers();
     files();
-    refusals();
+    null_read();
+    null_hand_plans();
+    null_divisions();
+    null_plans();
+    null_files();
+    texts();
     return differences;
 }

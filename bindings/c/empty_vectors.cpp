@@ -1,0 +1,63 @@
+// The header from C++, with vectors as buffers; an empty one may lend a null pointer. Prints what differs and ends with 1, or ends with 0.
+#include <cstdio>
+#include <vector>
+
+#include "planner.h"
+
+static int differences = 0;
+
+static void expect(bool holds, const char *what) {
+    if (!holds) {
+        std::printf("differs: %s\n", what);
+        differences = 1;
+    }
+}
+
+typedef std::vector<uint8_t> Bytes;
+typedef std::vector<uint16_t> Scores;
+
+// One street, one site.
+static const Scores scores(1, 5);
+static const Bytes rows(1, 1), sites(1, 1);
+static const Scores no_scores;
+static const Bytes none;
+
+static void plans() {
+    Bytes division(1), chosen(1), empty;
+    uint64_t answer = planner_free_plan(1, 1, 1, scores.data(), scores.size(), rows.data(), rows.size(), division.data(), division.size(),
+                                        chosen.data(), chosen.size());
+    expect(planner_refusal(answer) == PLANNER_ACCEPTED && planner_total(answer) == 5 && division[0] == 1 && chosen[0] == 1, "a plan");
+    answer = planner_free_plan(1, 1, 1, scores.data(), scores.size(), rows.data(), rows.size(), empty.data(), empty.size(),
+                               chosen.data(), chosen.size());
+    expect(planner_refusal(answer) == PLANNER_REFUSED_BUFFER_LENGTH, "a plan into an empty division");
+    answer = planner_balanced_division(1, 1, scores.data(), scores.size(), rows.data(), rows.size(), none.data(), none.size(),
+                                       division.data(), division.size());
+    expect(planner_refusal(answer) == PLANNER_REFUSED_CHOSEN, "a division over no sites");
+}
+
+static void numbers() {
+    expect(planner_version() == PLANNER_VERSION, "the version");
+    expect(planner_ranked_part(none.data(), none.size()) == 0, "the ranked part of an empty row");
+    uint64_t answer = planner_list_total(1, 1, no_scores.data(), no_scores.size(), rows.data(), rows.size(), sites.data(), sites.size());
+    expect(planner_refusal(answer) == PLANNER_REFUSED_BUFFER_LENGTH, "a total without scores");
+    answer = planner_check_survey(0, 0, 0, no_scores.data(), no_scores.size(), none.data(), none.size());
+    expect(planner_refusal(answer) == PLANNER_REFUSED_STREETS, "the check of an empty survey");
+}
+
+static void files() {
+    Bytes file, read_rows(PLANNER_ROWS_LENGTH);
+    Scores read_scores(PLANNER_SCORES_LENGTH);
+    std::size_t n, m, k, kind;
+    uint64_t answer = planner_read_file(file.data(), file.size(), &n, &m, &k, &kind, read_scores.data(), read_scores.size(),
+                                        read_rows.data(), read_rows.size());
+    expect(planner_refusal(answer) == PLANNER_REFUSED_FILE_ENDS, "an empty file");
+    answer = planner_write_file(1, 1, 1, PLANNER_FREE, scores.data(), scores.size(), rows.data(), rows.size(), file.data(), file.size());
+    expect(planner_refusal(answer) == PLANNER_REFUSED_FILE_BUFFER_SHORT, "a file into an empty buffer");
+}
+
+int main() {
+    plans();
+    numbers();
+    files();
+    return differences;
+}

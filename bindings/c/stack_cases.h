@@ -1,0 +1,171 @@
+/*
+ * What the stack test runs: every call of include/planner.h, on towns that drive it deep, and with faults for which it refuses.
+ * A further call is a runner and a line of `calls`, a further refusal a line of `faults`.
+ */
+#include <string.h>
+
+#include "planner.h"
+
+/* What the calls are lent, with one element of room behind each buffer. All of it is static: a runner's own frame stays small. */
+static size_t n, m, k, kind;
+static uint16_t scores[PLANNER_SCORES_LENGTH + 1];
+static uint8_t rows[PLANNER_ROWS_LENGTH + 1], row[PLANNER_MAX_SITES + 1];
+static uint8_t sites[PLANNER_MAX_SITES + 1], site;
+static uint8_t hand[PLANNER_MAX_STREETS + 1];
+static uint32_t claimed;
+static uint8_t division[PLANNER_MAX_STREETS + 1], chosen[PLANNER_MAX_SITES + 1];
+static uint8_t file[PLANNER_FILE_LENGTH + 1], written[PLANNER_FILE_LENGTH];
+static size_t scores_len, rows_len, row_len, sites_len, division_len, chosen_len, file_len, written_len;
+
+/* What the reader fills. */
+static size_t read_n, read_m, read_k, read_kind, read_scores_len, read_rows_len;
+static uint16_t read_scores[PLANNER_SCORES_LENGTH];
+static uint8_t read_rows[PLANNER_ROWS_LENGTH];
+
+/* The answer of the last call. */
+static uint64_t answer;
+
+static void run_check_survey(void) {
+    answer = planner_check_survey(n, m, k, scores, scores_len, rows, rows_len);
+}
+
+static void run_ranked_part(void) {
+    answer = planner_ranked_part(row, row_len);
+}
+
+static void run_row_score(void) {
+    answer = planner_row_score(m, scores, scores_len, row, row_len, site);
+}
+
+static void run_list_total(void) {
+    answer = planner_list_total(n, m, scores, scores_len, rows, rows_len, sites, sites_len);
+}
+
+static void run_free_division(void) {
+    answer = planner_free_division(n, m, scores, scores_len, rows, rows_len, sites, sites_len, division, division_len);
+}
+
+static void run_balanced_division(void) {
+    answer = planner_balanced_division(n, m, scores, scores_len, rows, rows_len, sites, sites_len, division, division_len);
+}
+
+static void run_free_plan(void) {
+    answer = planner_free_plan(n, m, k, scores, scores_len, rows, rows_len, division, division_len, chosen, chosen_len);
+}
+
+static void run_balanced_plan(void) {
+    answer = planner_balanced_plan(n, m, k, scores, scores_len, rows, rows_len, division, division_len, chosen, chosen_len);
+}
+
+static void run_floor(void) {
+    answer = planner_floor(n, m, k, scores, scores_len, rows, rows_len);
+}
+
+static void run_free_hand(void) {
+    answer = planner_free_hand(n, m, k, scores, scores_len, rows, rows_len, hand, division_len, claimed);
+}
+
+static void run_balanced_hand(void) {
+    answer = planner_balanced_hand(n, m, k, scores, scores_len, rows, rows_len, hand, division_len, claimed);
+}
+
+static void run_write_file(void) {
+    answer = planner_write_file(n, m, k, kind, scores, scores_len, rows, rows_len, written, written_len);
+}
+
+static void run_read_file(void) {
+    answer = planner_read_file(file, file_len, &read_n, &read_m, &read_k, &read_kind, read_scores, read_scores_len, read_rows, read_rows_len);
+}
+
+/* A set of refusals, by their numbers, and two members more for the buffers of some calls. */
+#define NUMBER(number) (UINT64_C(1) << (number))
+#define LENT_DIVISION NUMBER(62)
+#define LENT_CHOSEN NUMBER(63)
+#define ROW (NUMBER(2) | NUMBER(6) | NUMBER(8) | NUMBER(9) | NUMBER(10) | NUMBER(11))
+#define SURVEY (ROW | NUMBER(1) | NUMBER(3))
+#define LIST (SURVEY | NUMBER(17) | NUMBER(20))
+#define PLAN (SURVEY | LENT_DIVISION | LENT_CHOSEN)
+#define HAND (SURVEY | LENT_DIVISION | NUMBER(17) | NUMBER(18) | NUMBER(19))
+#define FILE_RECORDS (NUMBER(12) | NUMBER(13) | NUMBER(14) | NUMBER(15) | NUMBER(16))
+
+static const struct call {
+    const char *name;
+    void (*run)(void);
+    size_t promise;
+    uint64_t refuses;
+} calls[] = {
+    {"CHECK_SURVEY", run_check_survey, PLANNER_STACK_CHECK_SURVEY, SURVEY},
+    {"RANKED_PART", run_ranked_part, PLANNER_STACK_RANKED_PART, 0},
+    {"ROW_SCORE", run_row_score, PLANNER_STACK_ROW_SCORE, ROW | NUMBER(17)},
+    {"LIST_TOTAL", run_list_total, PLANNER_STACK_LIST_TOTAL, LIST},
+    {"FREE_DIVISION", run_free_division, PLANNER_STACK_FREE_DIVISION, LIST | LENT_DIVISION},
+    {"BALANCED_DIVISION", run_balanced_division, PLANNER_STACK_BALANCED_DIVISION, LIST | LENT_DIVISION | NUMBER(5)},
+    {"FREE_PLAN", run_free_plan, PLANNER_STACK_FREE_PLAN, PLAN},
+    {"BALANCED_PLAN", run_balanced_plan, PLANNER_STACK_BALANCED_PLAN, PLAN | NUMBER(5)},
+    {"FLOOR", run_floor, PLANNER_STACK_FLOOR, SURVEY | NUMBER(5)},
+    {"FREE_HAND", run_free_hand, PLANNER_STACK_FREE_HAND, HAND},
+    {"BALANCED_HAND", run_balanced_hand, PLANNER_STACK_BALANCED_HAND, HAND | NUMBER(5)},
+    {"WRITE_FILE", run_write_file, PLANNER_STACK_WRITE_FILE, SURVEY | NUMBER(4) | NUMBER(7)},
+    {"READ_FILE", run_read_file, PLANNER_STACK_READ_FILE, (SURVEY | NUMBER(4) | FILE_RECORDS) & ~NUMBER(9)},
+};
+enum { CALLS = sizeof calls / sizeof calls[0] };
+
+/* A site for each place of a street's list: all of them by turns, the same for every street, three names, or none. */
+enum lists { VARIED, ALIKE, THREE_NAMES, EMPTY };
+
+static uint8_t listed(enum lists lists, size_t street, size_t place) {
+    size_t step = street / m % (m / 2 + 1) * 2 + 1; /* odd: where m is a power of 2, a list names every site once */
+    if (lists == EMPTY || (lists == THREE_NAMES && place >= 3)) {
+        return 0;
+    }
+    return (uint8_t)((lists == ALIKE ? place : street * 7 + place * step) % m + 1);
+}
+
+static void set_lengths(void) {
+    scores_len = m, rows_len = n * m, row_len = m, sites_len = k, division_len = n, chosen_len = k;
+    read_scores_len = PLANNER_SCORES_LENGTH, read_rows_len = PLANNER_ROWS_LENGTH;
+}
+
+/* Makes a town and what goes with it: a list of sites, a hand plan with its total, and the survey file. */
+static void make_town(size_t streets, size_t all, size_t choose, enum lists lists) {
+    n = streets, m = all, k = choose, kind = PLANNER_BALANCED;
+    set_lengths();
+    for (size_t place = 0; place < m; place++) {
+        scores[place] = (uint16_t)(PLANNER_TOP_SCORE - 15 * place);
+    }
+    claimed = 0;
+    for (size_t street = 0; street < n; street++) {
+        hand[street] = (uint8_t)(street % k + 1);
+        for (size_t place = 0; place < m; place++) {
+            uint8_t named = listed(lists, street, place);
+            rows[street * m + place] = named;
+            claimed += named == hand[street] ? scores[place] : 0;
+        }
+    }
+    memcpy(row, rows + (n - 1) * m, m);
+    for (size_t i = 0; i < k; i++) {
+        sites[i] = (uint8_t)(i + 1);
+    }
+    site = sites[k - 1];
+    file_len = planner_total(planner_write_file(n, m, k, kind, scores, m, rows, n * m, file, PLANNER_FILE_LENGTH));
+    written_len = file_len;
+}
+
+/* The first town is the one that the faults are put into. */
+static const struct town {
+    size_t n, m, k;
+    enum lists lists;
+} towns[] = {
+    {400, 64, 50, VARIED},
+    {400, 64, 8, VARIED},
+    {400, 64, 1, VARIED},
+    {400, 64, 64, VARIED},
+    {400, 64, 50, ALIKE},
+    {400, 64, 8, ALIKE},
+    {400, 64, 50, THREE_NAMES},
+    {400, 64, 8, THREE_NAMES},
+    {400, 64, 50, EMPTY},
+    {6, 4, 3, VARIED},
+    {1, 1, 1, VARIED},
+};
+enum { TOWNS = sizeof towns / sizeof towns[0] };
