@@ -1,213 +1,98 @@
-//! Bring-site plans for Rust: safe functions over the proved library. Each takes numbers and slices and gives its result, or the
-//! `Refusal` that document 01 names; a refused call leaves the lent slices as they were. Any numbers and any slices may be passed.
+//! Bring-site plans: which container sites a town should pay for, and which site each street goes to.
+//!
+//! Each street of a town hands in a list of sites, best first. A place in a list has a score, and a street gives a site the score of the
+//! place at which it has ranked it, 0 where it has not. The planning office says how many sites, K, it can pay for. A plan is K sites, a
+//! site for each street, and the total of the scores that the streets give their sites. There are two kinds ([`Kind`]): in a *free* plan
+//! each street goes to the chosen site that it likes best, and in a *balanced* plan every site serves the same number of streets.
+//!
+//! The crate calls a library that is proved: every call, on every input, gives exactly what its rule says, or one numbered [`Refusal`].
+//!
+//! # Example
+//! ```
+//! use planner::{Kind, Refusal, Survey};
+//!
+//! # fn main() -> Result<(), Refusal> {
+//! // three sites; first place scores 2, second 1, third 0; four streets, of which the third has ranked two sites
+//! let survey = Survey::new(&[2, 1, 0], &[&[1, 2, 3][..], &[1, 3, 2], &[2, 1], &[3, 2, 1]])?;
+//!
+//! let plan = survey.plan(Kind::Balanced, 2)?;
+//! assert_eq!(plan.sites, [1, 2]);
+//! assert_eq!(plan.total, 7);
+//! assert_eq!(plan.division.site(4), Some(2));
+//!
+//! // four streets cannot be shared out evenly over three sites
+//! let refusal = survey.plan(Kind::Balanced, 3).unwrap_err();
+//! assert_eq!(refusal, Refusal::Share);
+//! println!("refused {}: {refusal}", refusal.number());
+//! # Ok(())
+//! # }
+//! ```
+//!
+//! # What there is
+//! - [`Survey`] is the town, checked once when it is made. It plans ([`Survey::plan`]), divides the streets over sites that are given
+//!   ([`Survey::divide`]), totals a list of sites ([`Survey::list_total`]), says what a balanced plan reaches in any case
+//!   ([`Survey::floor`]) and tests a plan that was made by hand ([`Survey::test`]).
+//! - [`SurveyFile`] is a survey with the kind of plan and the K that are wanted, as bytes that are read and written.
+//! - [`Refusal`] is what is wrong with a call: its number, whose it is, and what to do.
+//! - [`slices`] are the library's functions over slices that the caller lends, and [`raw`] the same as C sees them.
+//!
+//! Streets and sites are numbered from 1, and site 0 is no site.
+//!
+//! # Stack and threads
+//! A balanced plan needs 290 KB of stack, a free one 60 KB, and any call that refuses 6 KB, which the main thread and the threads of
+//! [`std::thread`] have; a thread that is made with less should have half a megabyte. No call keeps anything for the next: any number of
+//! threads may call at once, and every type here can be sent to another thread and shared.
+//!
+//! # Linking
+//! The archive `libplanner_c.a` is linked in; the README says where it comes from. Checking and documenting a program need no archive.
+//! [`version`] is the archive's version, which has to be the crate's [`VERSION`]: the functions of another archive may be called otherwise,
+//! and a refusal that the crate does not know is a panic.
+mod hand_plan;
+mod plan;
 pub mod raw;
 mod refusal;
+pub mod slices;
+mod survey;
+mod survey_file;
 
-pub use refusal::Refusal;
+pub use hand_plan::HandPlan;
+pub use plan::{Division, Kind, Plan, Sites};
+pub use refusal::{Refusal, UnknownRefusal};
+pub use survey::Survey;
+pub use survey_file::SurveyFile;
 
-/// The most streets, the most sites, and the lengths of the reader's row buffer and of the longest file.
-pub const STREETS: usize = 400;
-pub const SITES: usize = 64;
-pub const ROWS: usize = STREETS * SITES;
-pub const FILE: usize = 27_739;
+/// The most streets that a survey has.
+pub const MAX_STREETS: usize = 400;
 
-/// The kinds of plan in a survey file.
-pub const FREE: usize = 0;
-pub const BALANCED: usize = 1;
+/// The most sites that a survey has.
+pub const MAX_SITES: usize = 64;
 
-/// What a survey file says of its town.
-#[derive(Clone, Copy, Debug, PartialEq, Eq)]
-pub struct Sizes {
-    pub n: usize,
-    pub m: usize,
-    pub k: usize,
-    pub kind: usize,
+/// The highest score of a place.
+pub const TOP_SCORE: u16 = 1_000;
+
+/// The length of the scores that the reader of files is lent: those of the most sites.
+pub const SCORES_LENGTH: usize = MAX_SITES;
+
+/// The length of the rows that the reader of files is lent, in bytes: those of the most streets over the most sites.
+pub const ROWS_LENGTH: usize = MAX_STREETS * MAX_SITES;
+
+/// The length of the longest survey file, in bytes.
+pub const FILE_LENGTH: usize = 27_739;
+
+/// The crate's version: the year, and in two digits the number of the last change request that is in.
+pub const VERSION: u32 = 202_600;
+
+/// The version of the archive that is linked, which counts as [`VERSION`] does.
+///
+/// ```
+/// assert_eq!(planner::version(), planner::VERSION);
+/// ```
+#[must_use]
+pub fn version() -> u32 {
+    raw::planner_version()
 }
 
-/// Takes a packed answer apart: the refusal in the upper half, the total in the lower.
-fn unpacked(answer: u64) -> Result<u32, Refusal> {
-    match (answer >> 32) as u32 {
-        0 => Ok(answer as u32),
-        number => Err(Refusal::from_number(number).expect("the library gives no number above 20")),
-    }
-}
-
-/// Checks a survey of `n` streets and `m` sites of which `k` are to be chosen. Refuses with 1, 2, 3, 6, 8, 9, 10 or 11.
-pub fn check_survey(n: usize, m: usize, k: usize, scores: &[u16], rows: &[u8]) -> Result<(), Refusal> {
-    // SAFETY: here and below each pointer is a slice's own and stands beside its length, a lent buffer is borrowed for the call alone, and
-    // the library is proved to stay inside what it is lent.
-    let answer = unsafe { raw::planner_check_survey(n, m, k, scores.as_ptr(), scores.len(), rows.as_ptr(), rows.len()) };
-    unpacked(answer).map(|_| ())
-}
-
-/// The ranked part of a row: the caller's own bytes before the first zero. Refuses nothing.
-pub fn ranked_part(row: &[u8]) -> &[u8] {
-    let length = unsafe { raw::planner_ranked_part(row.as_ptr(), row.len()) };
-    &row[..length]
-}
-
-/// The score that one row of `m` bytes gives one site. Refuses with 2, 6, 8, 9, 10, 11 or 17.
-pub fn row_score(m: usize, scores: &[u16], row: &[u8], site: u8) -> Result<u32, Refusal> {
-    unpacked(unsafe { raw::planner_row_score(m, scores.as_ptr(), scores.len(), row.as_ptr(), row.len(), site) })
-}
-
-/// The total of a list of sites, as in the free plan. Refuses with 1, 2, 3, 6, 8, 9, 10, 11, 17 or 20.
-pub fn list_total(n: usize, m: usize, scores: &[u16], rows: &[u8], sites: &[u8]) -> Result<u32, Refusal> {
-    unpacked(unsafe {
-        raw::planner_list_total(n, m, scores.as_ptr(), scores.len(), rows.as_ptr(), rows.len(), sites.as_ptr(), sites.len())
-    })
-}
-
-/// What the free and the balanced division are in C.
-type DivisionCall = unsafe extern "C" fn(usize, usize, *const u16, usize, *const u8, usize, *const u8, usize, *mut u8, usize) -> u64;
-
-/// The division that `call` makes, which has to be one of the archive's two.
-unsafe fn divide(
-    call: DivisionCall,
-    [n, m]: [usize; 2],
-    scores: &[u16],
-    rows: &[u8],
-    sites: &[u8],
-    division: &mut [u8],
-) -> Result<u32, Refusal> {
-    unpacked(call(
-        n,
-        m,
-        scores.as_ptr(),
-        scores.len(),
-        rows.as_ptr(),
-        rows.len(),
-        sites.as_ptr(),
-        sites.len(),
-        division.as_mut_ptr(),
-        division.len(),
-    ))
-}
-
-/// The free division over a list of sites, into `n` bytes; gives the list's total. Refuses with 1, 2, 3, 6, 8, 9, 10, 11, 17 or 20.
-pub fn free_division(n: usize, m: usize, scores: &[u16], rows: &[u8], sites: &[u8], division: &mut [u8]) -> Result<u32, Refusal> {
-    unsafe { divide(raw::planner_free_division, [n, m], scores, rows, sites, division) }
-}
-
-/// The best balanced division over a list of sites, into `n` bytes; gives its total. Refuses with 1, 2, 3, 5, 6, 8, 9, 10, 11, 17
-/// or 20.
-pub fn balanced_division(n: usize, m: usize, scores: &[u16], rows: &[u8], sites: &[u8], division: &mut [u8]) -> Result<u32, Refusal> {
-    unsafe { divide(raw::planner_balanced_division, [n, m], scores, rows, sites, division) }
-}
-
-/// What the free and the balanced plan are in C.
-type PlanCall = unsafe extern "C" fn(usize, usize, usize, *const u16, usize, *const u8, usize, *mut u8, usize, *mut u8, usize) -> u64;
-
-/// The plan that `call` makes, which has to be one of the archive's two.
-unsafe fn plan(
-    call: PlanCall,
-    [n, m, k]: [usize; 3],
-    scores: &[u16],
-    rows: &[u8],
-    division: &mut [u8],
-    chosen: &mut [u8],
-) -> Result<u32, Refusal> {
-    unpacked(call(
-        n,
-        m,
-        k,
-        scores.as_ptr(),
-        scores.len(),
-        rows.as_ptr(),
-        rows.len(),
-        division.as_mut_ptr(),
-        division.len(),
-        chosen.as_mut_ptr(),
-        chosen.len(),
-    ))
-}
-
-/// The free plan: the site of each street into `n` bytes and the sites in order of choice into `k`; gives the total. Refuses with 1,
-/// 2, 3, 6, 8, 9, 10 or 11.
-pub fn free_plan(
-    n: usize,
-    m: usize,
-    k: usize,
-    scores: &[u16],
-    rows: &[u8],
-    division: &mut [u8],
-    chosen: &mut [u8],
-) -> Result<u32, Refusal> {
-    unsafe { plan(raw::planner_free_plan, [n, m, k], scores, rows, division, chosen) }
-}
-
-/// The balanced plan, with `n / k` streets to each site; buffers as in the free plan; gives the total. Refuses with 1, 2, 3, 5, 6, 8,
-/// 9, 10 or 11.
-pub fn balanced_plan(
-    n: usize,
-    m: usize,
-    k: usize,
-    scores: &[u16],
-    rows: &[u8],
-    division: &mut [u8],
-    chosen: &mut [u8],
-) -> Result<u32, Refusal> {
-    unsafe { plan(raw::planner_balanced_plan, [n, m, k], scores, rows, division, chosen) }
-}
-
-/// The floor: a total that the balanced plan reaches in any case. Refuses with 1, 2, 3, 5, 6, 8, 9, 10 or 11.
-pub fn floor(n: usize, m: usize, k: usize, scores: &[u16], rows: &[u8]) -> Result<u32, Refusal> {
-    unpacked(unsafe { raw::planner_floor(n, m, k, scores.as_ptr(), scores.len(), rows.as_ptr(), rows.len()) })
-}
-
-/// What the tests of a free and of a balanced hand-made plan are in C.
-type HandCall = unsafe extern "C" fn(usize, usize, usize, *const u16, usize, *const u8, usize, *const u8, usize, u32) -> u64;
-
-/// The test that `call` makes, which has to be one of the archive's two.
-unsafe fn test_hand(
-    call: HandCall,
-    [n, m, k]: [usize; 3],
-    scores: &[u16],
-    rows: &[u8],
-    division: &[u8],
-    claimed: u32,
-) -> Result<u32, Refusal> {
-    unpacked(call(n, m, k, scores.as_ptr(), scores.len(), rows.as_ptr(), rows.len(), division.as_ptr(), division.len(), claimed))
-}
-
-/// Tests a hand-made free plan: the site of each street, 0 for none, and the total claimed for it; gives the plan's total,
-/// which the claimed one then is. Refuses with 1, 2, 3, 6, 8, 9, 10, 11, 17, 18 or 19.
-pub fn free_hand(n: usize, m: usize, k: usize, scores: &[u16], rows: &[u8], division: &[u8], claimed: u32) -> Result<u32, Refusal> {
-    unsafe { test_hand(raw::planner_free_hand, [n, m, k], scores, rows, division, claimed) }
-}
-
-/// Tests a hand-made balanced plan: `k` sites with `n / k` streets each, and the total claimed for it; gives the plan's total,
-/// which the claimed one then is. Refuses with 1, 2, 3, 5, 6, 8, 9, 10, 11, 17, 18 or 19.
-pub fn balanced_hand(n: usize, m: usize, k: usize, scores: &[u16], rows: &[u8], division: &[u8], claimed: u32) -> Result<u32, Refusal> {
-    unsafe { test_hand(raw::planner_balanced_hand, [n, m, k], scores, rows, division, claimed) }
-}
-
-/// Writes the survey file into a buffer of any length, of which `FILE` bytes are always enough; gives the file's length, and changes
-/// no byte behind it. Refuses with 1, 2, 3, 4, 6, 8, 9, 10, 11 or 7.
-pub fn write_file(n: usize, m: usize, k: usize, kind: usize, scores: &[u16], rows: &[u8], file: &mut [u8]) -> Result<usize, Refusal> {
-    let answer = unsafe {
-        raw::planner_write_file(n, m, k, kind, scores.as_ptr(), scores.len(), rows.as_ptr(), rows.len(), file.as_mut_ptr(), file.len())
-    };
-    unpacked(answer).map(|length| length as usize)
-}
-
-/// Reads a survey file of any length into `ROWS` row bytes, of which the first n times m are filled, and `SITES` scores, of which the
-/// first m are. Refuses with 6, 12, 13, 1, 2, 3, 4, 8, 14, 15, 10, 11 or 16.
-pub fn read_file(file: &[u8], rows: &mut [u8], scores: &mut [u16]) -> Result<Sizes, Refusal> {
-    let mut sizes = Sizes { n: 0, m: 0, k: 0, kind: 0 };
-    let answer = unsafe {
-        raw::planner_read_file(
-            file.as_ptr(),
-            file.len(),
-            rows.as_mut_ptr(),
-            rows.len(),
-            scores.as_mut_ptr(),
-            scores.len(),
-            &mut sizes.n,
-            &mut sizes.m,
-            &mut sizes.k,
-            &mut sizes.kind,
-        )
-    };
-    unpacked(answer).map(|_| sizes)
-}
+/// The README's example, run as a test.
+#[cfg(doctest)]
+#[doc = include_str!("../README.md")]
+struct Readme;

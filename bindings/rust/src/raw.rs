@@ -1,6 +1,19 @@
-//! The archive's functions as C sees them; include/planner.h documents each. The functions of the crate's root are the safe ones.
+//! The archive's functions as C sees them. [`slices`](crate::slices) has a safe function for each.
+//!
+//! Except for [`planner_ranked_part`] and [`planner_version`], a function gives one number of 64 bits: the total where the call is
+//! accepted, else the refusal's number times 2^32.
+//!
+//! # Safety
+//! A buffer is a pointer and, behind it, the number of its elements. That many elements have to be there for the call, aligned for their
+//! type. A buffer or number that a function writes (`*mut`) overlaps nothing else that is lent to the same call. With length 0 the pointer
+//! may be null. The four numbers that the reader fills are never null. Whatever the numbers and elements are, a function stays inside what
+//! it is lent, and what is wrong with them is refused.
 
-extern "C" {
+unsafe extern "C" {
+    /// The archive's version, which counts as [`VERSION`](crate::VERSION) does.
+    pub safe fn planner_version() -> u32;
+
+    /// Checks a survey; total 0.
     pub fn planner_check_survey(
         n: usize,
         m: usize,
@@ -11,10 +24,13 @@ extern "C" {
         rows_len: usize,
     ) -> u64;
 
+    /// The length of a row before its first zero. The number is that length, not a packed answer.
     pub fn planner_ranked_part(row: *const u8, row_len: usize) -> usize;
 
+    /// The score that one row gives one site.
     pub fn planner_row_score(m: usize, scores: *const u16, scores_len: usize, row: *const u8, row_len: usize, site: u8) -> u64;
 
+    /// The total of a list of sites.
     pub fn planner_list_total(
         n: usize,
         m: usize,
@@ -26,6 +42,7 @@ extern "C" {
         sites_len: usize,
     ) -> u64;
 
+    /// The free division over a list of sites, into `division`; the list's total.
     pub fn planner_free_division(
         n: usize,
         m: usize,
@@ -39,6 +56,7 @@ extern "C" {
         division_len: usize,
     ) -> u64;
 
+    /// The best balanced division over a list of sites, into `division`; its total.
     pub fn planner_balanced_division(
         n: usize,
         m: usize,
@@ -52,6 +70,7 @@ extern "C" {
         division_len: usize,
     ) -> u64;
 
+    /// The free plan, into `division` and `chosen`; its total.
     pub fn planner_free_plan(
         n: usize,
         m: usize,
@@ -66,6 +85,7 @@ extern "C" {
         chosen_len: usize,
     ) -> u64;
 
+    /// The balanced plan, into `division` and `chosen`; its total.
     pub fn planner_balanced_plan(
         n: usize,
         m: usize,
@@ -80,8 +100,10 @@ extern "C" {
         chosen_len: usize,
     ) -> u64;
 
+    /// The floor, a total that the balanced plan reaches in any case.
     pub fn planner_floor(n: usize, m: usize, k: usize, scores: *const u16, scores_len: usize, rows: *const u8, rows_len: usize) -> u64;
 
+    /// Tests a hand-made free plan; its total.
     pub fn planner_free_hand(
         n: usize,
         m: usize,
@@ -95,6 +117,7 @@ extern "C" {
         claimed: u32,
     ) -> u64;
 
+    /// Tests a hand-made balanced plan; its total.
     pub fn planner_balanced_hand(
         n: usize,
         m: usize,
@@ -108,6 +131,7 @@ extern "C" {
         claimed: u32,
     ) -> u64;
 
+    /// Writes a survey file into the front of `file`; the file's length as the total.
     pub fn planner_write_file(
         n: usize,
         m: usize,
@@ -121,16 +145,17 @@ extern "C" {
         file_len: usize,
     ) -> u64;
 
+    /// Reads a survey file into the four numbers, the front of `scores` and the front of `rows`; total 0.
     pub fn planner_read_file(
         file: *const u8,
         file_len: usize,
-        rows: *mut u8,
-        rows_len: usize,
-        scores: *mut u16,
-        scores_len: usize,
         n: *mut usize,
         m: *mut usize,
         k: *mut usize,
         kind: *mut usize,
+        scores: *mut u16,
+        scores_len: usize,
+        rows: *mut u8,
+        rows_len: usize,
     ) -> u64;
 }

@@ -1,99 +1,137 @@
-//! Document 01's refusals.
+//! The refusals: what a call turns down.
 use std::error::Error;
 use std::fmt;
 
-/// Why a call was turned down. Each variant's value is document 01's number, and what it displays are document 01's words.
-#[derive(Clone, Copy, Debug, PartialEq, Eq, Hash)]
-#[repr(u8)]
-pub enum Refusal {
-    Streets = 1,
-    Sites = 2,
-    Chosen = 3,
-    Kind = 4,
-    Share = 5,
-    BufferLength = 6,
-    FileBufferShort = 7,
-    Score = 8,
-    SiteAfterZero = 9,
-    SiteNumber = 10,
-    SiteTwice = 11,
-    FileEnds = 12,
-    Mark = 13,
-    StreetNumber = 14,
-    ListLength = 15,
-    BytesAfterEnd = 16,
-    SiteOutside = 17,
-    SitesUsed = 18,
-    ClaimedTotal = 19,
-    ListedTwice = 20,
+/// Makes the enum and its columns from the table below.
+macro_rules! refusals {
+    ($($number:literal $name:ident: $wrong:literal, $whose:literal, $to_do:literal;)*) => {
+        /// What is wrong with a call, by its number.
+        ///
+        /// A refusal displays what is wrong and what to do about it. A later version of the library has more refusals, so that a `match`
+        /// over them needs an arm for the rest.
+        ///
+        /// ```
+        /// use planner::Refusal;
+        ///
+        /// let refusal = Refusal::try_from(1).unwrap();
+        /// assert_eq!(refusal, Refusal::Streets);
+        /// assert_eq!(refusal.whose(), "planning office");
+        /// assert_eq!(refusal.to_string(), "number of streets outside 1 to 400: plan a larger town in parts");
+        /// assert!(Refusal::try_from(0).is_err());
+        /// ```
+        #[derive(Clone, Copy, Debug, PartialEq, Eq, Hash)]
+        #[non_exhaustive]
+        pub enum Refusal {
+            $(
+                #[doc = concat!($number, ", ", $whose, ": ", $wrong, ". ")]
+                #[doc = concat!("What to do: ", $to_do, ".")]
+                $name = $number,
+            )*
+        }
+
+        impl Refusal {
+            /// Every refusal, by rising number.
+            pub const ALL: &'static [Refusal] = &[$(Refusal::$name),*];
+
+            /// What is wrong.
+            #[must_use]
+            pub const fn what_is_wrong(self) -> &'static str {
+                match self {
+                    $(Refusal::$name => $wrong,)*
+                }
+            }
+
+            /// Who can put it right, such as the planning office or the survey team.
+            #[must_use]
+            pub const fn whose(self) -> &'static str {
+                match self {
+                    $(Refusal::$name => $whose,)*
+                }
+            }
+
+            /// What to do about it.
+            #[must_use]
+            pub const fn what_to_do(self) -> &'static str {
+                match self {
+                    $(Refusal::$name => $to_do,)*
+                }
+            }
+        }
+    };
+}
+
+refusals! {
+    1 Streets: "number of streets outside 1 to 400", "planning office", "plan a larger town in parts";
+    2 Sites: "number of sites outside 1 to 64", "planning office", "list fewer sites";
+    3 Chosen: "K, or the length of a list of sites, outside 1 to the number of sites", "planning office", "choose another K";
+    4 Kind: "kind of plan not 0 or 1", "planning office", "0 is free, 1 balanced";
+    5 Share: "K does not divide the number of streets (balanced plan, division, hand plan and floor)", "planning office",
+        "choose a K that divides it, or a free plan";
+    6 BufferLength: "a lent buffer of other than its exact length", "calling program", "lend the length that the call names";
+    7 FileBufferShort: "a file buffer shorter than the file", "calling program", "lend 27,739 bytes, the longest file";
+    8 Score: "a score above 1,000 or above the one before", "survey team", "put the scores in falling order";
+    9 SiteAfterZero: "a site after a zero in a row", "survey team", "close the gap in the list";
+    10 SiteNumber: "a site number above the number of sites (in a file also 0)", "survey team", "correct the number";
+    11 SiteTwice: "a site twice in one list", "survey team", "strike one of the two";
+    12 FileEnds: "the file ends early", "file sender", "send it again, whole";
+    13 Mark: "another mark than the one due", "file sender", "records come as TN, SC, ST .., EN";
+    14 StreetNumber: "a street out of turn", "file sender", "number the streets from 1 in their order";
+    15 ListLength: "a list longer than the number of sites", "file sender", "correct its length";
+    16 BytesAfterEnd: "bytes after EN", "file sender", "end the file there";
+    17 SiteOutside: "a site outside 1 to the number of sites (a free hand plan may have 0)", "sender of a hand plan or list",
+        "correct the site";
+    18 SitesUsed: "a free hand plan with more than K sites; a balanced one whose K sites don't have equal shares",
+        "sender of a hand plan", "move streets";
+    19 ClaimedTotal: "a claimed total that is not the plan's", "sender of a hand plan", "add it up again";
+    20 ListedTwice: "a site listed twice", "sender of a list", "strike one of the two";
 }
 
 impl Refusal {
-    /// Every refusal, in the order of the numbers.
-    pub const ALL: [Refusal; 20] = [
-        Refusal::Streets,
-        Refusal::Sites,
-        Refusal::Chosen,
-        Refusal::Kind,
-        Refusal::Share,
-        Refusal::BufferLength,
-        Refusal::FileBufferShort,
-        Refusal::Score,
-        Refusal::SiteAfterZero,
-        Refusal::SiteNumber,
-        Refusal::SiteTwice,
-        Refusal::FileEnds,
-        Refusal::Mark,
-        Refusal::StreetNumber,
-        Refusal::ListLength,
-        Refusal::BytesAfterEnd,
-        Refusal::SiteOutside,
-        Refusal::SitesUsed,
-        Refusal::ClaimedTotal,
-        Refusal::ListedTwice,
-    ];
-
-    /// Document 01's number, 1 to 20.
-    pub fn number(self) -> u8 {
-        self as u8
-    }
-
-    /// The refusal with a number; none has 0 or a number above 20.
-    pub fn from_number(number: u32) -> Option<Refusal> {
-        Refusal::ALL.into_iter().find(|refusal| u32::from(refusal.number()) == number)
-    }
-
-    /// Document 01's words.
-    pub fn words(self) -> &'static str {
-        match self {
-            Refusal::Streets => "n outside 1 to 400",
-            Refusal::Sites => "m outside 1 to 64",
-            Refusal::Chosen => "K, or the length of a given list of sites, outside 1 to m",
-            Refusal::Kind => "kind not 0 or 1",
-            Refusal::Share => "K (for a given list, its length) doesn't divide n",
-            Refusal::BufferLength => "a lent buffer of other than its exact length",
-            Refusal::FileBufferShort => "file buffer shorter than the file to be written",
-            Refusal::Score => "a score above 1,000 or above the one before",
-            Refusal::SiteAfterZero => "a site number after a zero in a row",
-            Refusal::SiteNumber => "a site number above m (in a file also 0)",
-            Refusal::SiteTwice => "a site twice in one list",
-            Refusal::FileEnds => "the bytes end inside a record or before one that is due",
-            Refusal::Mark => "another mark than the one due",
-            Refusal::StreetNumber => "street number out of turn",
-            Refusal::ListLength => "length above m",
-            Refusal::BytesAfterEnd => "bytes after EN",
-            Refusal::SiteOutside => "a site outside 1 to m (free hand plan: 0 is also allowed)",
-            Refusal::SitesUsed => "free, more than K sites used, 0 not counted; balanced, not exactly K sites with n / K streets each",
-            Refusal::ClaimedTotal => "the claimed total isn't the plan's",
-            Refusal::ListedTwice => "a site listed twice",
-        }
+    /// The refusal's number, from 1 on.
+    #[must_use]
+    pub const fn number(self) -> u32 {
+        self as u32
     }
 }
 
 impl fmt::Display for Refusal {
     fn fmt(&self, out: &mut fmt::Formatter<'_>) -> fmt::Result {
-        out.write_str(self.words())
+        write!(out, "{}: {}", self.what_is_wrong(), self.what_to_do())
     }
 }
 
 impl Error for Refusal {}
+
+impl From<Refusal> for u32 {
+    fn from(refusal: Refusal) -> u32 {
+        refusal.number()
+    }
+}
+
+impl TryFrom<u32> for Refusal {
+    type Error = UnknownRefusal;
+
+    fn try_from(number: u32) -> Result<Refusal, UnknownRefusal> {
+        Refusal::ALL.iter().copied().find(|refusal| refusal.number() == number).ok_or(UnknownRefusal(number))
+    }
+}
+
+/// A number that no [`Refusal`] has: 0, which is the number of an accepted call, or one above the last.
+#[derive(Clone, Copy, Debug, PartialEq, Eq, Hash)]
+pub struct UnknownRefusal(u32);
+
+impl UnknownRefusal {
+    /// The number.
+    #[must_use]
+    pub const fn number(self) -> u32 {
+        self.0
+    }
+}
+
+impl fmt::Display for UnknownRefusal {
+    fn fmt(&self, out: &mut fmt::Formatter<'_>) -> fmt::Result {
+        write!(out, "no refusal has the number {}", self.0)
+    }
+}
+
+impl Error for UnknownRefusal {}

@@ -2,7 +2,7 @@
 //! refused, 0 for an accepted call.
 use crate::plain::survey::{self, division_total, Town};
 use crate::plain::{balanced, division, file, free, hand, refusals};
-use planner::Refusal;
+use planner::{slices, Refusal};
 use std::fmt::Debug;
 
 /// What lent buffers hold before a call, so that a byte that is touched shows.
@@ -18,7 +18,7 @@ pub struct Buffers {
 /// An outcome of the library against one by `plain`.
 fn same<T: PartialEq + Debug>(ours: Result<T, Refusal>, plain: Result<T, u8>, call: &str, town: &Town) -> u8 {
     let number = *plain.as_ref().err().unwrap_or(&0);
-    assert_eq!(ours.map_err(Refusal::number), plain, "{call} of {town:?}");
+    assert_eq!(ours.map_err(|refusal| refusal.number() as u8), plain, "{call} of {town:?}");
     number
 }
 
@@ -41,28 +41,28 @@ pub fn best_division(values: &[Vec<u32>], sites: &[u8]) -> Vec<u8> {
 }
 
 pub fn check_survey(t: &Town) -> u8 {
-    same(planner::check_survey(t.n, t.m, t.k, &t.scores, &t.rows), refusals::check(t), "check_survey", t)
+    same(slices::check_survey(t.n, t.m, t.k, &t.scores, &t.rows), refusals::check(t), "check_survey", t)
 }
 
 pub fn ranked_part(row: &[u8]) {
-    let part = planner::ranked_part(row);
+    let part = slices::ranked_part(row);
     assert_eq!(part, survey::ranked(row));
     assert_eq!(part.as_ptr(), row.as_ptr());
 }
 
 pub fn row_score(t: &Town, row: &[u8], site: u8) -> u8 {
     let plain = refusals::row_score(t, row, site).map(|()| survey::score(&t.scores, row, site));
-    same(planner::row_score(t.m, &t.scores, row, site), plain, "row_score", t)
+    same(slices::row_score(t.m, &t.scores, row, site), plain, "row_score", t)
 }
 
 pub fn list_total(t: &Town, sites: &[u8]) -> u8 {
     let plain = refusals::list_total(t, sites).map(|()| free::total(&t.values(), sites));
-    same(planner::list_total(t.n, t.m, &t.scores, &t.rows, sites), plain, "list_total", t)
+    same(slices::list_total(t.n, t.m, &t.scores, &t.rows, sites), plain, "list_total", t)
 }
 
 pub fn free_division(t: &Town, sites: &[u8], length: usize) -> u8 {
     let mut buffer = vec![OLD; length];
-    let ours = planner::free_division(t.n, t.m, &t.scores, &t.rows, sites, &mut buffer);
+    let ours = slices::free_division(t.n, t.m, &t.scores, &t.rows, sites, &mut buffer);
     let tried = refusals::free_division(t, sites, length);
     let new = tried.is_ok().then(|| free::divide(t, sites));
     held(&buffer, new.as_deref(), "free_division", t);
@@ -71,7 +71,7 @@ pub fn free_division(t: &Town, sites: &[u8], length: usize) -> u8 {
 
 pub fn balanced_division(t: &Town, sites: &[u8], length: usize) -> u8 {
     let mut buffer = vec![OLD; length];
-    let ours = planner::balanced_division(t.n, t.m, &t.scores, &t.rows, sites, &mut buffer);
+    let ours = slices::balanced_division(t.n, t.m, &t.scores, &t.rows, sites, &mut buffer);
     let tried = refusals::balanced_division(t, sites, length);
     let new = tried.is_ok().then(|| best_division(&t.values(), sites));
     held(&buffer, new.as_deref(), "balanced_division", t);
@@ -80,7 +80,7 @@ pub fn balanced_division(t: &Town, sites: &[u8], length: usize) -> u8 {
 
 pub fn free_plan(t: &Town, lengths: Buffers) -> u8 {
     let (mut buffer, mut chosen) = (vec![OLD; lengths.division], vec![OLD; lengths.chosen]);
-    let ours = planner::free_plan(t.n, t.m, t.k, &t.scores, &t.rows, &mut buffer, &mut chosen);
+    let ours = slices::free_plan(t.n, t.m, t.k, &t.scores, &t.rows, &mut buffer, &mut chosen);
     let tried = refusals::free_plan(t, lengths.division, lengths.chosen);
     let sites = tried.is_ok().then(|| free::sites(t));
     let new = sites.as_ref().map(|sites| free::divide(t, sites));
@@ -91,7 +91,7 @@ pub fn free_plan(t: &Town, lengths: Buffers) -> u8 {
 
 pub fn balanced_plan(t: &Town, lengths: Buffers) -> u8 {
     let (mut buffer, mut chosen) = (vec![OLD; lengths.division], vec![OLD; lengths.chosen]);
-    let ours = planner::balanced_plan(t.n, t.m, t.k, &t.scores, &t.rows, &mut buffer, &mut chosen);
+    let ours = slices::balanced_plan(t.n, t.m, t.k, &t.scores, &t.rows, &mut buffer, &mut chosen);
     let tried = refusals::balanced_plan(t, lengths.division, lengths.chosen);
     let sites = tried.is_ok().then(|| balanced::sites(t));
     let new = sites.as_ref().map(|sites| best_division(&t.values(), sites));
@@ -102,22 +102,22 @@ pub fn balanced_plan(t: &Town, lengths: Buffers) -> u8 {
 
 pub fn floor(t: &Town) -> u8 {
     let plain = refusals::floor(t).map(|()| balanced::floor(t));
-    same(planner::floor(t.n, t.m, t.k, &t.scores, &t.rows), plain, "floor", t)
+    same(slices::floor(t.n, t.m, t.k, &t.scores, &t.rows), plain, "floor", t)
 }
 
 pub fn free_hand(t: &Town, division: &[u8], claimed: u32) -> u8 {
     let plain = hand::free(t, division, claimed).map(|()| division_total(&t.values(), division));
-    same(planner::free_hand(t.n, t.m, t.k, &t.scores, &t.rows, division, claimed), plain, "free_hand", t)
+    same(slices::free_hand(t.n, t.m, t.k, &t.scores, &t.rows, division, claimed), plain, "free_hand", t)
 }
 
 pub fn balanced_hand(t: &Town, division: &[u8], claimed: u32) -> u8 {
     let plain = hand::balanced(t, division, claimed).map(|()| division_total(&t.values(), division));
-    same(planner::balanced_hand(t.n, t.m, t.k, &t.scores, &t.rows, division, claimed), plain, "balanced_hand", t)
+    same(slices::balanced_hand(t.n, t.m, t.k, &t.scores, &t.rows, division, claimed), plain, "balanced_hand", t)
 }
 
 pub fn write_file(t: &Town, kind: usize, length: usize) -> u8 {
     let mut buffer = vec![OLD; length];
-    let ours = planner::write_file(t.n, t.m, t.k, kind, &t.scores, &t.rows, &mut buffer);
+    let ours = slices::write_file(t.n, t.m, t.k, kind, &t.scores, &t.rows, &mut buffer);
     let plain = refusals::write(t, kind).and_then(|()| {
         let file = file::write(t, kind);
         if length < file.len() {
@@ -141,14 +141,14 @@ pub fn read_file(bytes: &[u8], rows_length: usize, scores_length: usize) -> u8 {
         planner::raw::planner_read_file(
             bytes.as_ptr(),
             bytes.len(),
-            rows.as_mut_ptr(),
-            rows.len(),
-            scores.as_mut_ptr(),
-            scores.len(),
             n,
             m,
             k,
             kind,
+            scores.as_mut_ptr(),
+            scores.len(),
+            rows.as_mut_ptr(),
+            rows.len(),
         )
     };
     let right = refusals::length(rows_length, 25_600).and_then(|()| refusals::length(scores_length, 64));

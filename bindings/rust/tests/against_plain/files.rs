@@ -70,7 +70,7 @@ fn longest_file() {
     let mut random = Random::new(11);
     let town = towns::town(&mut random, Culture::Impartial, 400, 64, 64);
     let file = file::write(&town, 1);
-    assert_eq!(file.len(), planner::FILE);
+    assert_eq!(file.len(), planner::FILE_LENGTH);
     assert_eq!(compare::write_file(&town, 1, file.len()), 0);
     assert_eq!(compare::read_file(&file, 25_600, 64), 0);
     for _ in 0..500 {

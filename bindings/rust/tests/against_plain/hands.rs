@@ -4,6 +4,7 @@ use crate::plain::survey::{division_total, Town};
 use crate::plain::{balanced, free};
 use crate::random::Random;
 use crate::towns;
+use planner::slices;
 
 /// Changes a plan in one way, or not at all, and claims its total or one beside it.
 fn changed(random: &mut Random, town: &Town, plan: &[u8]) -> (Vec<u8>, u32) {
@@ -65,10 +66,10 @@ fn our_plans_pass() {
         let most = if turn < 280 { (30, 10) } else { (400, 64) };
         let t = towns::any_town(&mut random, most.0, most.1);
         let (mut division, mut chosen) = (vec![0; t.n], vec![0; t.k]);
-        let total = planner::free_plan(t.n, t.m, t.k, &t.scores, &t.rows, &mut division, &mut chosen).expect("a right survey");
+        let total = slices::free_plan(t.n, t.m, t.k, &t.scores, &t.rows, &mut division, &mut chosen).expect("a right survey");
         assert_eq!(compare::free_hand(&t, &division, total), 0);
         if t.n.is_multiple_of(t.k) {
-            let total = planner::balanced_plan(t.n, t.m, t.k, &t.scores, &t.rows, &mut division, &mut chosen).expect("a right survey");
+            let total = slices::balanced_plan(t.n, t.m, t.k, &t.scores, &t.rows, &mut division, &mut chosen).expect("a right survey");
             assert_eq!(compare::balanced_hand(&t, &division, total), 0);
         }
     }

@@ -9,5 +9,4 @@ mod plain;
 mod random;
 mod small;
 mod towns;
-mod words;
 mod worked;

@@ -1,6 +1,6 @@
 //! Document 01's worked surveys, and each refusal once.
 use crate::plain::survey::Town;
-use planner::{Refusal, Sizes};
+use planner::{slices, Kind, Refusal, ROWS_LENGTH, SCORES_LENGTH};
 
 /// A town from its lists.
 fn town(m: usize, k: usize, scores: &[u16], lists: &[&[u8]]) -> Town {
@@ -17,18 +17,18 @@ type Plan = Result<(u32, Vec<u8>, Vec<u8>), Refusal>;
 
 fn free(t: &Town) -> Plan {
     let (mut division, mut chosen) = (vec![0; t.n], vec![0; t.k]);
-    let total = planner::free_plan(t.n, t.m, t.k, &t.scores, &t.rows, &mut division, &mut chosen)?;
+    let total = slices::free_plan(t.n, t.m, t.k, &t.scores, &t.rows, &mut division, &mut chosen)?;
     Ok((total, chosen, division))
 }
 
 fn balanced(t: &Town) -> Plan {
     let (mut division, mut chosen) = (vec![0; t.n], vec![0; t.k]);
-    let total = planner::balanced_plan(t.n, t.m, t.k, &t.scores, &t.rows, &mut division, &mut chosen)?;
+    let total = slices::balanced_plan(t.n, t.m, t.k, &t.scores, &t.rows, &mut division, &mut chosen)?;
     Ok((total, chosen, division))
 }
 
 fn floor(t: &Town) -> Result<u32, Refusal> {
-    planner::floor(t.n, t.m, t.k, &t.scores, &t.rows)
+    slices::floor(t.n, t.m, t.k, &t.scores, &t.rows)
 }
 
 fn p1(k: usize) -> Town {
@@ -69,12 +69,13 @@ fn worked_surveys() {
 fn worked_file() {
     let t = p5();
     let mut file = [0; 28];
-    assert_eq!(planner::write_file(t.n, t.m, t.k, planner::BALANCED, &t.scores, &t.rows, &mut file), Ok(28));
+    assert_eq!(slices::write_file(t.n, t.m, t.k, Kind::Balanced.into(), &t.scores, &t.rows, &mut file), Ok(28));
     assert_eq!(file, P5_FILE);
-    let (mut rows, mut scores) = ([0; planner::ROWS], [0; planner::SITES]);
-    assert_eq!(planner::read_file(&file, &mut rows, &mut scores), Ok(Sizes { n: 2, m: 2, k: 2, kind: 1 }));
+    let (mut scores, mut rows) = ([0; SCORES_LENGTH], [0; ROWS_LENGTH]);
+    let sizes = slices::read_file(&file, &mut scores, &mut rows).map(|sizes| [sizes.n, sizes.m, sizes.k, sizes.kind]);
+    assert_eq!(sizes, Ok([2, 2, 2, 1]));
     assert_eq!((&rows[..4], &scores[..2]), (&t.rows[..], &t.scores[..]));
-    assert_eq!(planner::read_file(&[], &mut rows, &mut scores), Err(Refusal::FileEnds));
+    assert_eq!(slices::read_file(&[], &mut scores, &mut rows), Err(Refusal::FileEnds));
 }
 
 /// The reader's answer to P5's file with one byte changed, and one more or less behind it.
@@ -82,27 +83,27 @@ fn changed(index: usize, byte: u8, length: usize) -> Refusal {
     let mut file = P5_FILE.to_vec();
     file[index] = byte;
     file.resize(length, 0);
-    planner::read_file(&file, &mut [0; planner::ROWS], &mut [0; planner::SITES]).unwrap_err()
+    slices::read_file(&file, &mut [0; SCORES_LENGTH], &mut [0; ROWS_LENGTH]).unwrap_err()
 }
 
 #[test]
 fn each_refusal() {
     let (t, mut bytes) = (p1(2), [0; 40]);
-    let check = |n, m, k, scores: &[u16], rows: &[u8]| planner::check_survey(n, m, k, scores, rows).unwrap_err();
+    let check = |n, m, k, scores: &[u16], rows: &[u8]| slices::check_survey(n, m, k, scores, rows).unwrap_err();
     let with = |index: usize, byte| {
         let mut rows = t.rows.clone();
         rows[index] = byte;
         check(4, 3, 2, &t.scores, &rows)
     };
-    let list = |sites: &[u8]| planner::list_total(4, 3, &t.scores, &t.rows, sites).unwrap_err();
+    let list = |sites: &[u8]| slices::list_total(4, 3, &t.scores, &t.rows, sites).unwrap_err();
     let given = [
         check(0, 3, 2, &t.scores, &t.rows),
         check(4, 65, 2, &t.scores, &t.rows),
         check(4, 3, 4, &t.scores, &t.rows),
-        planner::write_file(4, 3, 2, 2, &t.scores, &t.rows, &mut bytes).unwrap_err(),
+        slices::write_file(4, 3, 2, 2, &t.scores, &t.rows, &mut bytes).unwrap_err(),
         floor(&p1(3)).unwrap_err(),
         check(4, 3, 2, &t.scores, &t.rows[1..]),
-        planner::write_file(4, 3, 2, 1, &t.scores, &t.rows, &mut bytes).unwrap_err(),
+        slices::write_file(4, 3, 2, 1, &t.scores, &t.rows, &mut bytes).unwrap_err(),
         check(4, 3, 2, &[2, 1, 2], &t.rows),
         with(0, 0),
         with(0, 4),
@@ -113,10 +114,9 @@ fn each_refusal() {
         changed(17, 3, 28),
         changed(0, b'T', 29),
         list(&[1, 0]),
-        planner::free_hand(4, 3, 2, &t.scores, &t.rows, &[1, 2, 3, 0], 0).unwrap_err(),
-        planner::balanced_hand(4, 3, 2, &t.scores, &t.rows, &[1, 1, 2, 2], 6).unwrap_err(),
+        slices::free_hand(4, 3, 2, &t.scores, &t.rows, &[1, 2, 3, 0], 0).unwrap_err(),
+        slices::balanced_hand(4, 3, 2, &t.scores, &t.rows, &[1, 1, 2, 2], 6).unwrap_err(),
         list(&[1, 1]),
     ];
-    let numbers: Vec<u8> = given.iter().map(|refusal| refusal.number()).collect();
-    assert_eq!(numbers, Refusal::ALL.map(Refusal::number));
+    assert_eq!(given, Refusal::ALL);
 }

@@ -62,19 +62,20 @@ pub const CALLS: [Call; 11] = [
 
 /// The reader, which is lent its four numbers too.
 fn read_file(given: &mut Given) -> u64 {
-    // SAFETY: as above; each of the four numbers has memory of its own.
+    // SAFETY: each pointer to a buffer stands beside the length of the memory that it starts, and each of the four numbers has memory of
+    // its own.
     unsafe {
         planner_read_file(
             given.start("file"),
             given.length("file"),
-            given.start("rows"),
-            given.length("rows"),
-            given.start("scores"),
-            given.length("scores"),
             given.start("n"),
             given.start("m"),
             given.start("k"),
             given.start("kind"),
+            given.start("scores"),
+            given.length("scores"),
+            given.start("rows"),
+            given.length("rows"),
         )
     }
 }

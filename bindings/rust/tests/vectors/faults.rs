@@ -47,9 +47,10 @@ fn writes_that_are_not_due() {
         for (at, found) in [(-1, "a byte before it was written"), (3 * width as isize, "a byte behind it was written")] {
             let byte = lent.first_byte().wrapping_offset(at);
             // SAFETY: the guards stand there.
-            unsafe { *byte ^= 1 };
+            let flip = || unsafe { *byte ^= 1 };
+            flip();
             assert_eq!(lent.difference().as_deref(), Some(found));
-            unsafe { *byte ^= 1 };
+            flip();
         }
         lent.expect(&[1, 5]);
         assert_eq!(lent.difference().as_deref(), Some("its entry 2 is 2 and should be 5"));

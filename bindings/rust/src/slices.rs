@@ -1,0 +1,285 @@
+//! The library's functions over slices that the caller lends, without types of their own and without allocation.
+//!
+//! Any numbers and any slices may be passed: each function checks all that it is given and gives its result, or the [`Refusal`] that comes
+//! first. A refused call leaves the lent slices as they were. Sizes are `n` streets, `m` sites and `k` sites to choose. `scores` are the
+//! `m` scores of the places, best first. `rows` are `n` rows of `m` bytes: the sites that a street has ranked, best first, then zeros.
+//!
+//! A function here has the parameters of the library's own and gets more of them with it, while a program that uses the crate's types stays
+//! as it is.
+//!
+//! ```
+//! use planner::{slices, Refusal};
+//!
+//! let (scores, rows) = ([2, 1], [1, 2, 1, 0]);
+//! let (mut division, mut chosen) = ([0; 2], [0; 2]);
+//! assert_eq!(slices::balanced_plan(2, 2, 2, &scores, &rows, &mut division, &mut chosen), Ok(3));
+//! assert_eq!((division, chosen), ([2, 1], [1, 2]));
+//! assert_eq!(slices::floor(2, 2, 3, &scores, &rows), Err(Refusal::Chosen));
+//! ```
+use crate::{raw, version, Kind, Refusal, VERSION};
+
+/// What a survey file says of its town.
+#[derive(Clone, Copy, Debug, PartialEq, Eq, Hash)]
+#[non_exhaustive]
+pub struct Sizes {
+    /// The number of streets.
+    pub n: usize,
+    /// The number of sites.
+    pub m: usize,
+    /// The number of sites to choose.
+    pub k: usize,
+    /// The kind of plan: 0 free, 1 balanced.
+    pub kind: usize,
+}
+
+/// Takes a packed answer apart: the refusal in the upper half, the total in the lower.
+fn unpacked(answer: u64) -> Result<u32, Refusal> {
+    match (answer >> 32) as u32 {
+        0 => Ok(answer as u32),
+        number => Err(Refusal::try_from(number).unwrap_or_else(|unknown| {
+            panic!("{unknown} in version {VERSION}, and the archive that is linked is of version {}", version())
+        })),
+    }
+}
+
+/// Checks a survey.
+///
+/// # Errors
+/// In order of trial: 1 `Streets`, 2 `Sites`, 3 `Chosen`, 6 `BufferLength`, 8 `Score`, and byte by byte of the rows 9 `SiteAfterZero`,
+/// 10 `SiteNumber`, 11 `SiteTwice`.
+pub fn check_survey(n: usize, m: usize, k: usize, scores: &[u16], rows: &[u8]) -> Result<(), Refusal> {
+    // SAFETY: both pointers are a slice's own, beside its length, and are only read.
+    let answer = unsafe { raw::planner_check_survey(n, m, k, scores.as_ptr(), scores.len(), rows.as_ptr(), rows.len()) };
+    unpacked(answer).map(|_| ())
+}
+
+/// The ranked part of a row of any length: its bytes before the first zero.
+#[must_use]
+pub fn ranked_part(row: &[u8]) -> &[u8] {
+    // SAFETY: the pointer is the slice's own, beside its length, and is only read.
+    let length = unsafe { raw::planner_ranked_part(row.as_ptr(), row.len()) };
+    &row[..length]
+}
+
+/// The score that one row of `m` bytes gives one site, 0 where it has not ranked it.
+///
+/// # Errors
+/// In order of trial: 2 `Sites`, 6 `BufferLength`, 8 `Score`, byte by byte of the row 9 `SiteAfterZero`, 10 `SiteNumber`, 11 `SiteTwice`;
+/// then 17 `SiteOutside` for the site.
+pub fn row_score(m: usize, scores: &[u16], row: &[u8], site: u8) -> Result<u32, Refusal> {
+    // SAFETY: both pointers are a slice's own, beside its length, and are only read.
+    unpacked(unsafe { raw::planner_row_score(m, scores.as_ptr(), scores.len(), row.as_ptr(), row.len(), site) })
+}
+
+/// The total of a list of 1 to `m` sites: the sum over the streets of the best score that any of the sites has from it.
+///
+/// # Errors
+/// In order of trial: 1 `Streets`, 2 `Sites`, 3 `Chosen` for the list's length, 6 `BufferLength`, 8 `Score`, byte by byte of the rows
+/// 9 `SiteAfterZero`, 10 `SiteNumber`, 11 `SiteTwice`; then over the list 17 `SiteOutside` and 20 `ListedTwice`.
+pub fn list_total(n: usize, m: usize, scores: &[u16], rows: &[u8], sites: &[u8]) -> Result<u32, Refusal> {
+    // SAFETY: the three pointers are a slice's own, beside its length, and are only read.
+    unpacked(unsafe {
+        raw::planner_list_total(n, m, scores.as_ptr(), scores.len(), rows.as_ptr(), rows.len(), sites.as_ptr(), sites.len())
+    })
+}
+
+/// The division of a kind over a list of sites.
+pub(crate) fn division(
+    kind: Kind,
+    [n, m]: [usize; 2],
+    scores: &[u16],
+    rows: &[u8],
+    sites: &[u8],
+    division: &mut [u8],
+) -> Result<u32, Refusal> {
+    let call = match kind {
+        Kind::Free => raw::planner_free_division,
+        Kind::Balanced => raw::planner_balanced_division,
+    };
+    // SAFETY: each pointer is a slice's own, beside its length; only the division is written, and it is borrowed for this call alone.
+    unpacked(unsafe {
+        call(
+            n,
+            m,
+            scores.as_ptr(),
+            scores.len(),
+            rows.as_ptr(),
+            rows.len(),
+            sites.as_ptr(),
+            sites.len(),
+            division.as_mut_ptr(),
+            division.len(),
+        )
+    })
+}
+
+/// The free division over a list of 1 to `m` sites, into the `n` bytes of `division`: each street goes to the listed site that stands best
+/// in its list, and to site 0 if it has ranked none of them. Gives the list's total.
+///
+/// # Errors
+/// As [`list_total`], where 6 `BufferLength` is tried for the division too.
+pub fn free_division(n: usize, m: usize, scores: &[u16], rows: &[u8], sites: &[u8], division: &mut [u8]) -> Result<u32, Refusal> {
+    self::division(Kind::Free, [n, m], scores, rows, sites, division)
+}
+
+/// The best balanced division over a list of 1 to `m` sites, into the `n` bytes of `division`: each site gets the same number of streets,
+/// and no such division totals more. Of several best ones it is the one that gives street 1 the lowest site, then street 2, and so on.
+/// Gives the division's total.
+///
+/// # Errors
+/// As [`list_total`], where 5 `Share` is tried after 3, and 6 `BufferLength` for the division too.
+pub fn balanced_division(n: usize, m: usize, scores: &[u16], rows: &[u8], sites: &[u8], division: &mut [u8]) -> Result<u32, Refusal> {
+    self::division(Kind::Balanced, [n, m], scores, rows, sites, division)
+}
+
+/// The plan of a kind.
+pub(crate) fn plan(
+    kind: Kind,
+    [n, m, k]: [usize; 3],
+    scores: &[u16],
+    rows: &[u8],
+    division: &mut [u8],
+    chosen: &mut [u8],
+) -> Result<u32, Refusal> {
+    let call = match kind {
+        Kind::Free => raw::planner_free_plan,
+        Kind::Balanced => raw::planner_balanced_plan,
+    };
+    // SAFETY: each pointer is a slice's own, beside its length; the division and the chosen sites are written, and each is borrowed for
+    // this call alone.
+    unpacked(unsafe {
+        call(
+            n,
+            m,
+            k,
+            scores.as_ptr(),
+            scores.len(),
+            rows.as_ptr(),
+            rows.len(),
+            division.as_mut_ptr(),
+            division.len(),
+            chosen.as_mut_ptr(),
+            chosen.len(),
+        )
+    })
+}
+
+/// The free plan: the site of each street into the `n` bytes of `division`, the sites in order of choice into the `k` bytes of `chosen`.
+/// Each of `k` rounds adds the site that raises the total most, the lowest number on a tie; then the streets go to them as in
+/// [`free_division`]. Gives the total.
+///
+/// # Errors
+/// As [`check_survey`], where 6 `BufferLength` is tried for the division and the chosen sites too.
+pub fn free_plan(
+    n: usize,
+    m: usize,
+    k: usize,
+    scores: &[u16],
+    rows: &[u8],
+    division: &mut [u8],
+    chosen: &mut [u8],
+) -> Result<u32, Refusal> {
+    plan(Kind::Free, [n, m, k], scores, rows, division, chosen)
+}
+
+/// The balanced plan, with `n / k` streets to each of the `k` sites; buffers as in [`free_plan`]. Gives the total.
+///
+/// # Errors
+/// As [`check_survey`], where 5 `Share` is tried after 3, and 6 `BufferLength` for the division and the chosen sites too.
+pub fn balanced_plan(
+    n: usize,
+    m: usize,
+    k: usize,
+    scores: &[u16],
+    rows: &[u8],
+    division: &mut [u8],
+    chosen: &mut [u8],
+) -> Result<u32, Refusal> {
+    plan(Kind::Balanced, [n, m, k], scores, rows, division, chosen)
+}
+
+/// The floor: a total that the balanced plan reaches in any case.
+///
+/// # Errors
+/// As [`check_survey`], where 5 `Share` is tried after 3.
+pub fn floor(n: usize, m: usize, k: usize, scores: &[u16], rows: &[u8]) -> Result<u32, Refusal> {
+    // SAFETY: both pointers are a slice's own, beside its length, and are only read.
+    unpacked(unsafe { raw::planner_floor(n, m, k, scores.as_ptr(), scores.len(), rows.as_ptr(), rows.len()) })
+}
+
+/// The test of a hand-made plan of a kind.
+pub(crate) fn hand_plan(
+    kind: Kind,
+    [n, m, k]: [usize; 3],
+    scores: &[u16],
+    rows: &[u8],
+    division: &[u8],
+    claimed: u32,
+) -> Result<u32, Refusal> {
+    let call = match kind {
+        Kind::Free => raw::planner_free_hand,
+        Kind::Balanced => raw::planner_balanced_hand,
+    };
+    // SAFETY: the three pointers are a slice's own, beside its length, and are only read.
+    unpacked(unsafe { call(n, m, k, scores.as_ptr(), scores.len(), rows.as_ptr(), rows.len(), division.as_ptr(), division.len(), claimed) })
+}
+
+/// Tests a hand-made free plan: the site of each street, 0 for none, and the total that is claimed for it. Gives the plan's total, which
+/// the claimed one then is.
+///
+/// # Errors
+/// As [`check_survey`], where 6 `BufferLength` is tried for the division too; then over the division 17 `SiteOutside`, 18 `SitesUsed` and
+/// 19 `ClaimedTotal`.
+pub fn free_hand(n: usize, m: usize, k: usize, scores: &[u16], rows: &[u8], division: &[u8], claimed: u32) -> Result<u32, Refusal> {
+    hand_plan(Kind::Free, [n, m, k], scores, rows, division, claimed)
+}
+
+/// Tests a hand-made balanced plan: `k` sites with `n / k` streets each, and the total that is claimed for it. Gives the plan's total,
+/// which the claimed one then is.
+///
+/// # Errors
+/// As [`free_hand`], where 5 `Share` is tried after 3.
+pub fn balanced_hand(n: usize, m: usize, k: usize, scores: &[u16], rows: &[u8], division: &[u8], claimed: u32) -> Result<u32, Refusal> {
+    hand_plan(Kind::Balanced, [n, m, k], scores, rows, division, claimed)
+}
+
+/// Writes the survey file into a buffer of any length, of which [`FILE_LENGTH`](crate::FILE_LENGTH) bytes are always enough. Gives the
+/// file's length, and changes no byte behind it.
+///
+/// # Errors
+/// As [`check_survey`], where 4 `Kind` is tried after 3; last 7 `FileBufferShort`.
+pub fn write_file(n: usize, m: usize, k: usize, kind: usize, scores: &[u16], rows: &[u8], file: &mut [u8]) -> Result<usize, Refusal> {
+    // SAFETY: the three pointers are a slice's own, beside its length; only the file is written, and it is borrowed for this call alone.
+    let answer = unsafe {
+        raw::planner_write_file(n, m, k, kind, scores.as_ptr(), scores.len(), rows.as_ptr(), rows.len(), file.as_mut_ptr(), file.len())
+    };
+    unpacked(answer).map(|length| length as usize)
+}
+
+/// Reads a survey file of any length into [`SCORES_LENGTH`](crate::SCORES_LENGTH) scores, of which the first `m` are filled, and
+/// [`ROWS_LENGTH`](crate::ROWS_LENGTH) row bytes, of which the first `n` times `m` are.
+///
+/// # Errors
+/// First 6 `BufferLength` for the scores and the rows. Then record by record: 12 `FileEnds` before its mark, 13 `Mark`, 12 in its fixed
+/// part, its fields (1 `Streets`, 2 `Sites`, 3 `Chosen`, 4 `Kind`; 8 `Score`; 14 `StreetNumber`, 15 `ListLength`), 12 in its list, and byte
+/// by byte of the list 10 `SiteNumber`, 11 `SiteTwice`. Last 16 `BytesAfterEnd`.
+pub fn read_file(file: &[u8], scores: &mut [u16], rows: &mut [u8]) -> Result<Sizes, Refusal> {
+    let (mut n, mut m, mut k, mut kind) = (0, 0, 0, 0);
+    // SAFETY: the three pointers are a slice's own, beside its length; scores and rows are borrowed for this call alone, and each of the
+    // four numbers is this function's own.
+    let answer = unsafe {
+        raw::planner_read_file(
+            file.as_ptr(),
+            file.len(),
+            &mut n,
+            &mut m,
+            &mut k,
+            &mut kind,
+            scores.as_mut_ptr(),
+            scores.len(),
+            rows.as_mut_ptr(),
+            rows.len(),
+        )
+    };
+    unpacked(answer).map(|_| Sizes { n, m, k, kind })
+}

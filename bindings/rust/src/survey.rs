@@ -1,0 +1,195 @@
+//! A town's survey.
+use crate::{slices, HandPlan, Kind, Plan, Refusal, MAX_SITES, MAX_STREETS};
+
+/// A town's survey: the score of each place in a list, and the ranked list of each street.
+///
+/// There are 1 to 400 streets and 1 to 64 sites. The scores, one for each site, are at most 1,000 and never rise from one place to the
+/// next. A list names no site twice, and may name fewer than all of them, or none.
+///
+/// A survey is checked once, when it is made, so that a `Survey` is one that the library accepts. The library's calls check it again, as
+/// they do with all that they are given, but can then refuse only what the call itself is about, such as K.
+///
+/// ```
+/// use planner::{Refusal, Survey};
+///
+/// # fn main() -> Result<(), Refusal> {
+/// let survey = Survey::new(&[2, 1, 0], &[vec![1, 2, 3], vec![3, 1], vec![]])?;
+/// assert_eq!((survey.streets(), survey.sites()), (3, 3));
+/// assert_eq!(survey.list(2), Some(&[3, 1][..]));
+/// assert_eq!(survey.score(2, 1), Some(1));
+/// assert_eq!(survey.list_total(&[2, 3]), Ok(3));
+///
+/// assert_eq!(Survey::new(&[2, 1], &[[1, 1]]), Err(Refusal::SiteTwice));
+/// # Ok(())
+/// # }
+/// ```
+#[derive(Clone, Debug, PartialEq, Eq, Hash)]
+#[must_use]
+pub struct Survey {
+    scores: Vec<u16>,
+    rows: Vec<u8>,
+}
+
+impl Survey {
+    /// A survey from the scores of the places, best first, and each street's list of sites, best first. There are as many sites as scores.
+    /// Zeros at the end of a list count as nothing.
+    ///
+    /// # Errors
+    /// In order of trial: 15 [`ListLength`](Refusal::ListLength) where a list has more entries than there are sites,
+    /// 1 [`Streets`](Refusal::Streets), 2 [`Sites`](Refusal::Sites), 8 [`Score`](Refusal::Score), and byte by byte of the lists
+    /// 9 [`SiteAfterZero`](Refusal::SiteAfterZero), 10 [`SiteNumber`](Refusal::SiteNumber), 11 [`SiteTwice`](Refusal::SiteTwice).
+    pub fn new(scores: &[u16], lists: &[impl AsRef<[u8]>]) -> Result<Survey, Refusal> {
+        let (n, m) = (lists.len(), scores.len());
+        if lists.iter().any(|list| list.as_ref().len() > m) {
+            return Err(Refusal::ListLength);
+        }
+        let mut rows = Vec::new();
+        // a town of other sizes is refused for them, and its rows might not fit into memory
+        if n <= MAX_STREETS && m <= MAX_SITES {
+            rows.reserve_exact(n * m);
+            for (street, list) in lists.iter().enumerate() {
+                rows.extend_from_slice(list.as_ref());
+                rows.resize((street + 1) * m, 0);
+            }
+        }
+        slices::check_survey(n, m, 1, scores, &rows)?;
+        Ok(Survey { scores: scores.to_vec(), rows })
+    }
+
+    /// A survey from the scores of the places, best first, and a row for each street, one behind the other: as many bytes as there are
+    /// scores, which are its list of sites, best first, and then zeros.
+    ///
+    /// # Errors
+    /// In order of trial: 1 [`Streets`](Refusal::Streets) where there are no rows or too many, 2 [`Sites`](Refusal::Sites),
+    /// 6 [`BufferLength`](Refusal::BufferLength) where the last row is not whole, 8 [`Score`](Refusal::Score), and byte by byte of the rows
+    /// 9 [`SiteAfterZero`](Refusal::SiteAfterZero), 10 [`SiteNumber`](Refusal::SiteNumber), 11 [`SiteTwice`](Refusal::SiteTwice). Without
+    /// any score it is 2, since rows of no bytes cannot be counted.
+    pub fn from_rows(scores: &[u16], rows: &[u8]) -> Result<Survey, Refusal> {
+        let m = scores.len();
+        // a part of a row is no street more, but where it stands alone it is the one row that is not whole
+        let part = usize::from(!rows.is_empty());
+        let n = rows.len().checked_div(m).map_or(1, |whole| whole.max(part));
+        slices::check_survey(n, m, 1, scores, rows)?;
+        Ok(Survey { scores: scores.to_vec(), rows: rows.to_vec() })
+    }
+
+    /// The survey of a file that was read, in which the reader has tried all that the check tries.
+    pub(crate) fn of_file(scores: Vec<u16>, rows: Vec<u8>) -> Survey {
+        Survey { scores, rows }
+    }
+
+    /// The number of streets.
+    #[must_use]
+    pub fn streets(&self) -> usize {
+        self.rows.len() / self.sites()
+    }
+
+    /// The number of sites.
+    #[must_use]
+    pub fn sites(&self) -> usize {
+        self.scores.len()
+    }
+
+    /// The score of each place, best first.
+    #[must_use]
+    pub fn scores(&self) -> &[u16] {
+        &self.scores
+    }
+
+    /// The rows, one behind the other: for each street as many bytes as there are sites, its list and then zeros.
+    #[must_use]
+    pub fn rows(&self) -> &[u8] {
+        &self.rows
+    }
+
+    /// A street's list: the sites that it has ranked, best first. `None` where there is no such street; they are numbered from 1 on.
+    #[must_use]
+    pub fn list(&self, street: usize) -> Option<&[u8]> {
+        self.row(street).map(slices::ranked_part)
+    }
+
+    fn row(&self, street: usize) -> Option<&[u8]> {
+        self.rows.chunks_exact(self.sites()).nth(street.checked_sub(1)?)
+    }
+
+    /// The score that a street gives a site: that of the site's place in its list, 0 where it has not ranked it. `None` where there is no
+    /// such street or no such site.
+    #[must_use]
+    pub fn score(&self, street: usize, site: u8) -> Option<u32> {
+        slices::row_score(self.sites(), &self.scores, self.row(street)?, site).ok()
+    }
+
+    /// The total of a list of sites: the sum over the streets of the best score that any of the sites has from it.
+    ///
+    /// # Errors
+    /// In order of trial: 3 [`Chosen`](Refusal::Chosen) where the list is empty or too long, 17 [`SiteOutside`](Refusal::SiteOutside),
+    /// 20 [`ListedTwice`](Refusal::ListedTwice).
+    pub fn list_total(&self, sites: &[u8]) -> Result<u32, Refusal> {
+        slices::list_total(self.streets(), self.sites(), &self.scores, &self.rows, sites)
+    }
+
+    /// The plan with K sites.
+    ///
+    /// A free plan is made in K rounds, each of which adds the site that raises the total most. With total S, and T the total of any other
+    /// K sites, K^K (T - S) is at most (K - 1)^K T. A balanced plan is made in K rounds too; no other division of the streets over its
+    /// sites in equal shares totals more, and the total is at least the [`floor`](Survey::floor).
+    ///
+    /// # Errors
+    /// In order of trial: 3 [`Chosen`](Refusal::Chosen), and 5 [`Share`](Refusal::Share) for a balanced plan.
+    pub fn plan(&self, kind: Kind, k: usize) -> Result<Plan, Refusal> {
+        let mut division = vec![0; self.streets()];
+        // a K above the number of sites is refused before the lengths are looked at
+        let mut sites = vec![0; k.min(self.sites())];
+        let sizes = [self.streets(), self.sites(), k];
+        let total = slices::plan(kind, sizes, &self.scores, &self.rows, &mut division, &mut sites)?;
+        Ok(Plan { sites, division: division.into(), total })
+    }
+
+    /// The plan over sites that are given.
+    ///
+    /// In a free one each street goes to the given site that stands best in its list, and is unserved if it has ranked none of them. In a
+    /// balanced one each site gets the same number of streets, and no such division totals more; of several best ones it is the one that
+    /// gives street 1 the lowest site, then street 2, and so on.
+    ///
+    /// ```
+    /// use planner::{Kind, Survey};
+    ///
+    /// # fn main() -> Result<(), planner::Refusal> {
+    /// let survey = Survey::new(&[2, 1, 0], &[[1, 2, 3], [1, 3, 2], [1, 2, 3], [3, 2, 1]])?;
+    /// let plan = survey.divide(Kind::Balanced, &[3, 1])?;
+    /// assert_eq!((plan.division.as_bytes(), plan.total), (&[1, 3, 1, 3][..], 7));
+    /// assert_eq!(plan.sites, [3, 1]);
+    /// # Ok(())
+    /// # }
+    /// ```
+    ///
+    /// # Errors
+    /// In order of trial: 3 [`Chosen`](Refusal::Chosen) where the list is empty or too long, 5 [`Share`](Refusal::Share) for a balanced
+    /// plan, 17 [`SiteOutside`](Refusal::SiteOutside), 20 [`ListedTwice`](Refusal::ListedTwice).
+    pub fn divide(&self, kind: Kind, sites: &[u8]) -> Result<Plan, Refusal> {
+        let mut division = vec![0; self.streets()];
+        let sizes = [self.streets(), self.sites()];
+        let total = slices::division(kind, sizes, &self.scores, &self.rows, sites, &mut division)?;
+        Ok(Plan { sites: sites.to_vec(), division: division.into(), total })
+    }
+
+    /// The floor: a total that the balanced plan with K sites reaches in any case.
+    ///
+    /// # Errors
+    /// In order of trial: 3 [`Chosen`](Refusal::Chosen), 5 [`Share`](Refusal::Share).
+    pub fn floor(&self, k: usize) -> Result<u32, Refusal> {
+        slices::floor(self.streets(), self.sites(), k, &self.scores, &self.rows)
+    }
+
+    /// Tests a plan that was made by hand and gives its total, which the claimed one then is. A free plan has to use at most K sites, and
+    /// a balanced one exactly K sites with the same number of streets each.
+    ///
+    /// # Errors
+    /// In order of trial: 3 [`Chosen`](Refusal::Chosen), 5 [`Share`](Refusal::Share) for a balanced plan, 6
+    /// [`BufferLength`](Refusal::BufferLength) where the division has not a site for each street, 17 [`SiteOutside`](Refusal::SiteOutside),
+    /// 18 [`SitesUsed`](Refusal::SitesUsed), 19 [`ClaimedTotal`](Refusal::ClaimedTotal).
+    pub fn test(&self, plan: &HandPlan) -> Result<u32, Refusal> {
+        let sizes = [self.streets(), self.sites(), plan.k()];
+        slices::hand_plan(plan.kind(), sizes, &self.scores, &self.rows, plan.division().as_bytes(), plan.claimed())
+    }
+}
