@@ -1,6 +1,5 @@
 // What a survey file is refused for, read from front to end, and 0 where it is right.
 ghost use Prim.Native.Nat.{_+_, _*_, _≤_};
-ghost use lib.ListN.{length};
 
 // Where a record ends, and the number that it is refused for.
 struct Step {

@@ -2,7 +2,6 @@
 use crate::scores;
 use drawn_towns::STREETS;
 use drawn_towns::Town;
-ghost use Prim.Native.Nat.{_≤_};
 ghost use Rattle.drawn_towns.specs.Small.{Small};
 
 // more than the divisions of any town: 4 sites for each of 8 streets, where 5 sites have 5 streets at most

@@ -2,7 +2,6 @@
 use crate::scores;
 use drawn_towns::STREETS;
 use drawn_towns::Town;
-ghost use Prim.Native.Nat.{_≤_};
 ghost use Rattle.drawn_towns.specs.Small.{Small};
 
 // Whether some street has a site outside a range that ends with m.

@@ -11,7 +11,7 @@ ghost use Rattle.survey_file.specs.Encode.{mostFile};
 ghost use Rattle.refusals.specs.Inputs.{planOf};
 ghost use Rattle.listing.specs.Listing.{mostText};
 ghost use Rattle.printing.specs.Texts.{answerText, planText, printed};
-ghost use Rattle.printing.specs.Asked.{SurveyAsked, PlanAsked, ListingAsked, surveyHeld, townHeld, SurveyHeld};
+ghost use Rattle.printing.specs.Asked.{PlanAsked, ListingAsked, surveyHeld, townHeld, SurveyHeld};
 
 // A buffer of so many bytes has room for every text: 400 streets have lines of at most 19 bytes each.
 pub const TEXT: usize = 8192;

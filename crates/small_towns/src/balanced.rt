@@ -8,9 +8,7 @@ use drawn_towns::Town;
 use plain_search::divisions;
 use plain_search::floors;
 use plain_search::rounds;
-ghost use mathlib.Core.Path.{_≡_};
 ghost use Prim.Native.Nat.{_≤_};
-ghost use lib.ListN.{length};
 ghost use Rattle.drawn_towns.specs.Small.{Small};
 
 // Whether k divides the streets.

@@ -6,7 +6,6 @@ use drawn_towns::SITES;
 use drawn_towns::STREETS;
 use drawn_towns::Town;
 use planner::Answer;
-ghost use Prim.Native.Nat.{_≤_};
 ghost use Rattle.drawn_towns.specs.Small.{Small};
 
 // A division over a list, balanced or free.

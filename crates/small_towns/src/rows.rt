@@ -4,7 +4,6 @@ use drawn_towns::Town;
 use plain_search::scores;
 use planner::Answer;
 ghost use Prim.Native.Nat.{_+_, _≤_};
-ghost use lib.ListN.{length};
 ghost use Rattle.drawn_towns.specs.Small.{Small};
 
 // the sites from 0 on that each row is tried with

@@ -4,7 +4,7 @@
 use mathlib.Core.Path.{_≡_, refl, sym, ap, _∙_}
 use mathlib.Core.Bool.{Bool, true, false, _||_, true≢false}
 use mathlib.Core.Logic.{_≢_, _⊎_, inl, inr, ⊎-elim, by-cases}
-use mathlib.Core.List.{List, [], _∷_}
+use mathlib.Core.List.{List}
 use Prim.Native.Nat.{ℕ, _+_, _≤_, _<_}
 use native.Mathlib.Numerals.{add-one, lt-of-le-of-ne}
 use native.Mathlib.Decide.{ℕ-discrete}
@@ -26,7 +26,7 @@ use Rattle.division.proofs.ProblemShares.{share-tail, sited}
 use Rattle.queues.specs.Queue.{PricedTable, flag, Later, Grown}
 use Rattle.queues.specs.Limits.{Leaver, Limits, Raised}
 use Rattle.queues.specs.PathBack.{Lowest, Turned}
-use Rattle.queues.specs.Tights.{Listed, Rowed}
+use Rattle.queues.specs.Tights.{Rowed}
 use Rattle.ties.specs.Standing.{Prices, Aim, Standing, Pass}
 use Rattle.queues.proofs.QueueGrowth.{cut-of}
 use Rattle.queues.proofs.TightRows.{row-back}

@@ -1,5 +1,4 @@
 -- `small_towns::files::rows_length` meets its contract. Assumes nothing.
-use borrow.Author.Needs.{needs}
 use native.Mathlib.Omega.{arith}
 use native.Mathlib.Nat.{mul-le-mul}
 use Rattle.small_towns.proofs.files.rows_length.Statement.{statement}
