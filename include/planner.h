@@ -61,7 +61,8 @@ extern "C" {
 /*
  * The bytes of stack that each call needs below its caller's frame, whatever it is lent; PLANNER_STACK_REFUSED is what any call
  * needs that refuses. Measured, with 256 bytes of room at least (bindings/c/stack.c), where memcpy and memset are bound when the
- * program starts: linked with -Wl,-z,now, or statically. Where they are bound at first use, that use needs up to 4,096 bytes more.
+ * program starts: linked with -Wl,-z,now, or statically. Where they are bound at first use, that use needs more, as much as the
+ * processor's registers take: 3,184 bytes were seen with AVX-512, and no test holds that. Where stack is short, link with -z now.
  */
 #define PLANNER_STACK_CHECK_SURVEY 3072
 #define PLANNER_STACK_RANKED_PART 512
