@@ -6,3 +6,4 @@ pub mod Floored
 pub mod FloorShares
 pub mod Keys
 pub mod Agree
+pub mod CountedShares

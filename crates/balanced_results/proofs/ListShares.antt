@@ -3,26 +3,21 @@
 -- Assumes nothing.
 use mathlib.Core.Path.{_≡_, _∙_}
 use mathlib.Core.List.{List}
-use Prim.Native.Nat.{ℕ, _+_, _/_, _≤_, _<_}
+use Prim.Native.Nat.{ℕ, _+_, _≤_, _<_}
 use native.Mathlib.Omega.{arith}
 use lib.ListN.{length}
 use Rattle.counting.specs.Lists.{at}
-use Rattle.counting.proofs.Sums.{has-at}
 use Rattle.tables.specs.Tables.{StreetTable}
 use Rattle.division.specs.Shares.{share, InShares, divisionTotal, sharesOf, shareSum}
 use Rattle.division.specs.Divide.{divide}
 use Rattle.division.specs.Problem.{Problem}
 use Rattle.division.proofs.Counts.{share-fits, has-share, divisionTotal-same}
 use Rattle.division.proofs.Best.{divide-in, divide-length, divide-same}
-use Rattle.division.proofs.Shared.{shares-length, shares-even}
-use Rattle.balanced_plan.specs.Rounds.{evenShare}
-use Rattle.starts.specs.Given.{Unshared}
+use Rattle.division.proofs.Shared.{shares-length, shares-sum}
+use Rattle.shares.specs.Rounds.{roundShare}
+use Rattle.shares.proofs.Sums.{shares-all}
 use Rattle.balanced_results.specs.Shareable.{Shareable}
 use Rattle.balanced_results.specs.Plans.{dividedBy}
-
--- blank shares can be given out
-pub unshared : {n m : ℕ} {list : List ℕ} (shares : List ℕ) → Shareable n m list → length shares ≡ m + 1 → ((a : ℕ) → at shares a ≡ 0) → Unshared list m shares
-unshared {list = list} shares ok size none = record { size = size; none = none; listed = λ i l. ok .sites (at list i) (has-at list i l) }
 
 -- the values and the shares make a problem
 pub problem : {n m : ℕ} {values : List ℕ} (k : ℕ) (shares : List ℕ) → n ≡ k → StreetTable n m values → length shares ≡ m + 1
@@ -36,18 +31,18 @@ problem k shares e table size nobody = rw (← e) (record {
   few = table .few-streets;
 })
 
-module _ {n m : ℕ} {list : List ℕ} (ok : Shareable n m list) where
+module _ (n : ℕ) {m : ℕ} {list : List ℕ} (ok : Shareable m list) where
   -- the shares
   abbrev c : List ℕ
-  c = sharesOf (evenShare n (length list)) list m
+  c = sharesOf (roundShare n (length list)) list m
 
   -- they are for all streets
   pub for-all : shareSum c ≡ n
-  for-all = shares-even (n / length list) list m (ok .sites) (ok .apart) ∙ ok .even
+  for-all = shares-sum (roundShare n (length list)) list m (ok .sites) (ok .apart) ∙ shares-all n (length list) (ok .some)
 
   -- only the sites 1 to m have one
   low : (a : ℕ) → 0 < share c a → a ≤ m
-  low a h = omega (arith, share-fits c a h, shares-length (evenShare n (length list)) list m)
+  low a h = omega (arith, share-fits c a h, shares-length (roundShare n (length list)) list m)
 
   module _ (v w : ℕ → ℕ → ℕ) (same : (s a : ℕ) → s < n → a ≤ m → v s a ≡ w s a) where
     -- the division goes by their values
@@ -69,7 +64,7 @@ pub given : (v : ℕ → ℕ → ℕ → ℕ) (x w j n : ℕ) (b c F : List ℕ)
 given v x w j n b c F t e f g total division = (rw (e, f, g) at total, rw (e, f, g) at division)
 
 -- what a division of the table's values is, said of the town's
-pub as-surveyed : {n m : ℕ} {list : List ℕ} → Shareable n m list → (k : ℕ) → k ≡ n → (v w : ℕ → ℕ → ℕ)
+pub as-surveyed : (n : ℕ) {m : ℕ} {list : List ℕ} → Shareable m list → (k : ℕ) → k ≡ n → (v w : ℕ → ℕ → ℕ)
     → ((s a : ℕ) → s < n → a ≤ m → v s a ≡ w s a) → (F : List ℕ) (t : ℕ) → t ≡ divisionTotal v (dividedBy v k m list) → F ≡ dividedBy v k m list
     → (t ≡ divisionTotal w (dividedBy w n m list)) × (F ≡ dividedBy w n m list)
-as-surveyed ok k e v w same F t total division = ((rw e at total) ∙ total-valued ok v w same, (rw e at division) ∙ as-valued ok v w same)
+as-surveyed n ok k e v w same F t total division = ((rw e at total) ∙ total-valued n ok v w same, (rw e at division) ∙ as-valued n ok v w same)

@@ -1,15 +1,15 @@
 -- The floor's theorem said of a town: its balanced plan totals no less than the floor.
 -- Assumes nothing.
-use mathlib.Core.Path.{_≡_}
-use Prim.Native.Nat.{ℕ, _*_, _/_, _≤_}
+use Prim.Native.Nat.{ℕ, _≤_, _<_}
 use Rattle.counting.specs.Sites.{Choice}
 use Rattle.survey.specs.Town.{Town}
 use Rattle.survey.specs.Rows.{rowOf, listOfStreet, streetPlace, scoreAt, value, shortest}
 use Rattle.survey.specs.Accepted.{Accepted}
 use Rattle.survey.proofs.Lists.{place-among, score-later, ranked-within, ranked-apart, shortest-least}
 use Rattle.survey.proofs.Places.{valued-zero}
-use Rattle.balanced_plan.specs.Rounds.{evenShare}
-use Rattle.balanced_plan.proofs.FloorShares.{even-sum, even-crowd}
+use Rattle.shares.specs.Rounds.{roundShare}
+use Rattle.shares.proofs.Sums.{shares-all}
+use Rattle.balanced_plan.proofs.FloorShares.{share-crowd}
 use Rattle.balanced_plan.proofs.Floored.{Ranking, best-floor}
 use Rattle.plans.specs.Plans.{streetKey, balancedSites, balancedTotal, planFloor}
 use Rattle.balanced_results.proofs.FallingLines.{key-falls}
@@ -28,8 +28,8 @@ module _ {t : Town} (ok : Accepted t) where
       }
 
   -- the best division in the shares of the rounds' sites totals no less than the floor
-  pub plan-floor : (k : ℕ) → k ≤ t .m → k * (t .n / k) ≡ t .n → Choice (t .m) k (balancedSites t k) → planFloor t k ≤ balancedTotal t k
-  plan-floor k few whole sites =
+  pub plan-floor : (k : ℕ) → 0 < k → k ≤ t .m → Choice (t .m) k (balancedSites t k) → planFloor t k ≤ balancedTotal t k
+  plan-floor k some few sites =
       rw (sites .size)
       (best-floor (value t) (streetKey t) (t .n) (t .m) (key-falls ok) (shortest t) (scoreAt (t .scores)) (listOfStreet t) ranking
-      (evenShare (t .n) k) k (valued-zero t) few (even-sum (t .n) (t .m) k whole) (even-crowd (t .n) (t .m) k whole few))
+      (roundShare (t .n) k) k (valued-zero t) few (shares-all (t .n) k some) (share-crowd (t .n) (t .m) k few))

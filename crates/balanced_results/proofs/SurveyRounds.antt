@@ -17,18 +17,20 @@ use Rattle.counting.proofs.Equations.{along}
 use Rattle.counting.proofs.Parts.{back-is, back-room, back-size}
 use Rattle.counting.proofs.Tables.{row-within}
 use Rattle.survey.specs.Rows.{rowAt}
+use Rattle.shares.specs.Rounds.{roundShare}
+use Rattle.shares.proofs.Sums.{shares-all}
 use Rattle.division.specs.Shares.{InShares, divisionTotal, sharesOf}
-use Rattle.balanced_plan.specs.Rounds.{ordered, rounds, evenShare}
+use Rattle.balanced_plan.specs.Rounds.{ordered, rounds}
 use Rattle.balanced_plan.specs.Rounds as plan
 use Rattle.balanced_plan.proofs.Ordered.{ordered-street}
 use Rattle.balanced_plan.proofs.RoundShares.{rounds-plan, rounds-in}
-use Rattle.balanced_plan.proofs.FloorShares.{even-sum}
 use Rattle.balanced_plan.proofs.Agree.{rounds-agree}
 use Rattle.balanced_rounds.specs.declared.State.{State}
 use Rattle.balanced_rounds.specs.Lines.{Orders, Lines, stateOf}
 use Rattle.division.specs.Problem.{tail}
+use Rattle.starts.specs.Given.{Shared}
 use Rattle.balanced_results.specs.Shareable.{Shareable}
-use Rattle.balanced_results.specs.Begun.{Shared, Begun, Listed, sitesOf}
+use Rattle.balanced_results.specs.Begun.{Begun, Listed, sitesOf}
 use Rattle.balanced_results.specs.Plans.{dividedBy, rowKey, roundsBy}
 use Rattle.balanced_results.proofs.ListShares.{as-surveyed}
 
@@ -104,35 +106,35 @@ module _ {n m : ℕ} {list : List ℕ} (rest : List ℕ) (sized : Sized n m list
       (λ a s l u. omega (arith, h a s l u, few a s))
 
 -- ---- the rounds' sites and division
-module _ (v key : ℕ → ℕ → ℕ) (n m k : ℕ) (few : k ≤ m) (even : k * (n / k) ≡ n) where
+module _ (v key : ℕ → ℕ → ℕ) (n m k : ℕ) (some : 0 < k) (few : k ≤ m) where
   -- the sites after the rounds
   abbrev end : plan.State
-  end = rounds v key n m (evenShare n k) k
+  end = rounds v key n m (roundShare n k) k
 
   -- they are k different ones of 1 to m
   pub sites-plan : Choice m k (end .chosen)
-  sites-plan = rounds-plan v key n m (evenShare n k) k few
+  sites-plan = rounds-plan v key n m (roundShare n k) k few
 
   -- over which the streets can be shared
-  pub sites-shareable : 0 < k → Shareable n m (end .chosen)
-  sites-shareable some =
+  pub sites-shareable : Shareable m (end .chosen)
+  sites-shareable =
       let p = sites-plan in
-      record { some = omega (arith, p .size); few = omega (arith, p .size, few); sites = p .sites; apart = p .apart; even = rw (p .size) even }
+      record { some = omega (arith, p .size); few = omega (arith, p .size, few); sites = p .sites; apart = p .apart }
 
   -- and the rounds share them so
-  pub division-shared : InShares (end .division) (sharesOf (evenShare n (length (end .chosen))) (end .chosen) m)
-  division-shared = rw (sites-plan .size) (rounds-in v key n m (evenShare n k) k few (even-sum n m k even))
+  pub division-shared : InShares (end .division) (sharesOf (roundShare n (length (end .chosen))) (end .chosen) m)
+  division-shared = rw (sites-plan .size) (rounds-in v key n m (roundShare n k) k few (shares-all n k some))
 
   -- the same for lists that are these, with the shares as they were given out
-  module _ (some : 0 < k) {sites : List ℕ} (e : sites ≡ end .chosen) where
-    pub rounds-shareable : Shareable n m sites
-    rounds-shareable = along (λ (S : List ℕ). Shareable n m S) e (sites-shareable some)
+  module _ {sites : List ℕ} (e : sites ≡ end .chosen) where
+    pub rounds-shareable : Shareable m sites
+    rounds-shareable = along (λ (S : List ℕ). Shareable m S) e sites-shareable
 
     pub rounds-begun : {shares division : List ℕ} → division ≡ end .division → Shared n m sites shares → Begun n m sites shares division
     rounds-begun {shares} {division} d shared =
-        let same : tail shares ≡ sharesOf (evenShare n (length (end .chosen))) (end .chosen) m =
-        shared .right ∙ ap (λ (S : List ℕ). sharesOf (evenShare n (length S)) S m) e in
-        record { shareable = rounds-shareable; shared = shared; divided = rw (d, same) division-shared }
+        let same : tail shares ≡ sharesOf (roundShare n (length (end .chosen))) (end .chosen) m =
+        shared .right ∙ ap (λ (S : List ℕ). sharesOf (roundShare n (length S)) S m) e in
+        record { shared = shared; divided = rw (d, same) division-shared }
 
 -- the engine's lists after the rounds are those of the definition
 pub state-sites : (n k : ℕ) (state : State) (end : plan.State) → state .count ≡ k → stateOf n state ≡ end → take k (state .chosen) ≡ end .chosen
@@ -145,7 +147,7 @@ state-division n state end h = ap (λ (x : plan.State). x .division) h
 module _ (v w : ℕ → ℕ → ℕ) (n m : ℕ) (rows : List ℕ) (same : (s a : ℕ) → s < n → a ≤ m → v s a ≡ w s a) where
   -- the rounds choose the same sites
   sites-same : (k : ℕ) → roundsBy v n m k rows .chosen ≡ roundsBy w n m k rows .chosen
-  sites-same k = ap (λ (state : plan.State). state .chosen) (rounds-agree v w (rowKey m rows) (rowKey m rows) n m (evenShare n k) same (λ a s l u. refl) k)
+  sites-same k = ap (λ (state : plan.State). state .chosen) (rounds-agree v w (rowKey m rows) (rowKey m rows) n m (roundShare n k) same (λ a s l u. refl) k)
 
   own-sites : (planned : Bool) (list sites : List ℕ) → sites ≡ sitesOf planned (roundsBy v n m (length list) rows .chosen) list
       → sites ≡ sitesOf planned (roundsBy w n m (length list) rows .chosen) list
@@ -153,16 +155,16 @@ module _ (v w : ℕ → ℕ → ℕ) (n m : ℕ) (rows : List ℕ) (same : (s a 
   own-sites false list sites e = e
 
   -- over which the streets can be shared
-  own-shareable : (planned : Bool) (list sites : List ℕ) → Listed planned n m list
-      → sites ≡ sitesOf planned (roundsBy w n m (length list) rows .chosen) list → Shareable n m sites
+  own-shareable : (planned : Bool) (list sites : List ℕ) → Listed planned m list
+      → sites ≡ sitesOf planned (roundsBy w n m (length list) rows .chosen) list → Shareable m sites
   own-shareable true list sites ok e =
-      along (λ (S : List ℕ). Shareable n m S) e (sites-shareable w (rowKey m rows) n m (length list) (ok .1) (ok .2) (ok .0))
-  own-shareable false list sites ok e = along (λ (S : List ℕ). Shareable n m S) e ok
+      along (λ (S : List ℕ). Shareable m S) e (sites-shareable w (rowKey m rows) n m (length list) (ok .0) (ok .1))
+  own-shareable false list sites ok e = along (λ (S : List ℕ). Shareable m S) e ok
 
-  pub best-surveyed : (planned : Bool) (list : List ℕ) → Listed planned n m list → (j : ℕ) → j ≡ n → (F S : List ℕ) (t : ℕ)
+  pub best-surveyed : (planned : Bool) (list : List ℕ) → Listed planned m list → (j : ℕ) → j ≡ n → (F S : List ℕ) (t : ℕ)
       → t ≡ divisionTotal v (dividedBy v j m S) → F ≡ dividedBy v j m S → S ≡ sitesOf planned (roundsBy v j m (length list) rows .chosen) list
       → (t ≡ divisionTotal w (dividedBy w n m S)) × ((F ≡ dividedBy w n m S) × (S ≡ sitesOf planned (roundsBy w n m (length list) rows .chosen) list))
   best-surveyed planned list ok j e F S t total division sites =
       let own = own-sites planned list S (rw e at sites) in
-      let (x, y) = as-surveyed (own-shareable planned list S ok own) j e v w same F t total division in
+      let (x, y) = as-surveyed n (own-shareable planned list S ok own) j e v w same F t total division in
       (x, (y, own))

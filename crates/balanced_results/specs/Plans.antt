@@ -6,13 +6,14 @@ use lib.ListN.{length}
 use Rattle.survey.specs.Rows.{rowAt, placeOf}
 use Rattle.tables.specs.Entries.{Ranked}
 use Rattle.tables.specs.Tables.{StreetTable, valueIn}
+use Rattle.shares.specs.Rounds.{roundShare}
 use Rattle.division.specs.Shares.{sharesOf}
 use Rattle.division.specs.Divide.{divide}
-use Rattle.balanced_plan.specs.Rounds.{State, rounds, placeKey, evenShare}
+use Rattle.balanced_plan.specs.Rounds.{State, rounds, placeKey}
 
 -- the best balanced division over a list of sites
 abbrev pub dividedBy : (ℕ → ℕ → ℕ) → ℕ → ℕ → List ℕ → List ℕ
-dividedBy v n m sites = divide v n (sharesOf (evenShare n (length sites)) sites m)
+dividedBy v n m sites = divide v n (sharesOf (roundShare n (length sites)) sites m)
 
 -- the key of a site and a street, by the street's row
 abbrev pub rowKey : ℕ → List ℕ → ℕ → ℕ → ℕ
@@ -20,7 +21,7 @@ rowKey m rows = placeKey (λ s a. placeOf (rowAt m rows s) a) m
 
 -- the state after the rounds
 abbrev pub roundsBy : (ℕ → ℕ → ℕ) → ℕ → ℕ → ℕ → List ℕ → State
-roundsBy v n m k rows = rounds v (rowKey m rows) n m (evenShare n k) k
+roundsBy v n m k rows = rounds v (rowKey m rows) n m (roundShare n k) k
 
 -- values that fall with the places: a street whose key for a site is no greater gives it no less
 abbrev pub FallsByPlace : (ℕ → ℕ → ℕ) → ℕ → ℕ → List ℕ → Type 0

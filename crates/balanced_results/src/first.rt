@@ -1,15 +1,14 @@
-// A first division for the engine to improve, in equal shares: that of the rounds, which choose the sites, or one over a list of sites.
+// A first division for the engine to improve, in the rounds' shares: that of the rounds, which choose the sites, or one over a list of sites.
 use balanced_rounds::State;
 ghost use mathlib.Core.Path.{_≡_};
 ghost use Prim.Native.Nat.{ℕ, _+_, _≤_, _<_};
 ghost use lib.ListN.{length};
-ghost use Rattle.counting.specs.Bounds.{mostStreets};
 ghost use Rattle.counting.specs.Lists.{at};
 ghost use Rattle.survey.specs.Town.{was, is};
 ghost use Rattle.tables.specs.Tables.{StreetTable, valueIn};
 ghost use Rattle.balanced_rounds.specs.Lines.{WellFormed, stateOf};
-ghost use Rattle.balanced_results.specs.Shareable.{Shareable, Divides};
-ghost use Rattle.balanced_results.specs.Begun.{Shared, Begun, Listed, sitesOf};
+ghost use Rattle.balanced_results.specs.Shareable.{Shareable};
+ghost use Rattle.balanced_results.specs.Begun.{Begun, Listed, sitesOf};
 ghost use Rattle.balanced_results.specs.Plans.{roundsBy, RankedTable};
 
 // The state after the rounds, from the rows of a survey and the table of its values.
@@ -27,16 +26,6 @@ fn play(values: &[u32], rows: &[u8], n: usize, m: usize, k: usize) -> State
     balanced_rounds::rounds(values, &orders[..size], n, m, k)
 }
 
-// The equal shares of a list of sites.
-fn share(n: usize, m: usize, sites: &[u8], shares: &mut [u16])
-    requires { ⌜ Shareable n m (now sites) × (n ≤ mostStreets) ⌝ }
-    requires { ⌜ (length (now shares) ≡ m + 1) × ((a : ℕ) → at (now shares) a ≡ 0) ⌝ }
-    ensures { λ _. ⌜ Shared n m (was sites) (is shares) ⌝ }
-{
-    let q = n / sites.len();
-    starts::share_out(sites, q as u16, m, shares);
-}
-
 // The sites and the division of the rounds.
 fn by_rounds(
     values: &[u32],
@@ -47,7 +36,7 @@ fn by_rounds(
     shares: &mut [u16],
 )
     requires { ⌜ RankedTable (now values) (length (now division)) m (now rows) ⌝ }
-    requires { ⌜ Divides (length (now division)) m (length (now sites)) ⌝ }
+    requires { ⌜ (0 < length (now sites)) × (length (now sites) ≤ m) ⌝ }
     requires { ⌜ (length (now shares) ≡ m + 1) × ((a : ℕ) → at (now shares) a ≡ 0) ⌝ }
     ensures begun { λ _. ⌜ Begun (length (was division)) m (is sites) (is shares) (is division) ⌝ }
     ensures sites { λ _. ⌜ is sites ≡ roundsBy (valueIn (was values) m) (length (was division)) m (length (was sites)) (was rows) .chosen ⌝ }
@@ -59,18 +48,18 @@ fn by_rounds(
     let given = state.division;
     buffers::copy_bytes(&chosen[..k], sites);
     buffers::copy_bytes(&given[..n], division);
-    share(n, m, sites, shares);
+    starts::share_out(n, m, sites, shares);
 }
 
 // A division over a list of sites.
 fn over_list(values: &[u32], m: usize, sites: &[u8], division: &mut [u8], shares: &mut [u16])
-    requires { ⌜ StreetTable (length (now division)) m (now values) × Shareable (length (now division)) m (now sites) ⌝ }
+    requires { ⌜ StreetTable (length (now division)) m (now values) × Shareable m (now sites) ⌝ }
     requires { ⌜ (length (now shares) ≡ m + 1) × ((a : ℕ) → at (now shares) a ≡ 0) ⌝ }
     ensures { λ _. ⌜ Begun (length (was division)) m (was sites) (is shares) (is division) ⌝ }
 {
     let w = m + 1;
     let mut left = [0u16; counting::WIDTH];
-    share(division.len(), m, sites, shares);
+    starts::share_out(division.len(), m, sites, shares);
     starts::begin(values, shares, &mut left[..w], division);
 }
 
@@ -85,7 +74,7 @@ pub fn divide(
     shares: &mut [u16],
 )
     requires { ⌜ RankedTable (now values) (length (now division)) m (now rows) ⌝ }
-    requires { ⌜ Listed planned (length (now division)) m (now sites) ⌝ }
+    requires { ⌜ Listed planned m (now sites) ⌝ }
     requires { ⌜ (length (now shares) ≡ m + 1) × ((a : ℕ) → at (now shares) a ≡ 0) ⌝ }
     ensures begun { λ _. ⌜ Begun (length (was division)) m (is sites) (is shares) (is division) ⌝ }
     ensures sites { λ _. ⌜ is sites ≡ sitesOf planned

@@ -1,7 +1,7 @@
 // From an accepted survey to the best balanced division, over a list of sites or over the sites that the rounds choose: the table is filled, a first
-// division in equal shares is found, and it becomes the best one.
+// division in the rounds' shares is found, and it becomes the best one.
 ghost use mathlib.Core.Path.{_≡_};
-ghost use Prim.Native.Nat.{ℕ, _+_};
+ghost use Prim.Native.Nat.{ℕ, _+_, _≤_, _<_};
 ghost use lib.ListN.{length};
 ghost use Rattle.counting.specs.Lists.{at};
 ghost use Rattle.survey.specs.Town.{townOf, town, was, is};
@@ -9,7 +9,7 @@ ghost use Rattle.survey.specs.Accepted.{Accepted};
 ghost use Rattle.tables.specs.Tables.{valueIn};
 ghost use Rattle.division.specs.Shares.{divisionTotal};
 ghost use Rattle.plans.specs.Plans.{planTotal, balancedDivision, balancedSites, balancedTotal};
-ghost use Rattle.balanced_results.specs.Shareable.{Shareable, Divides};
+ghost use Rattle.balanced_results.specs.Shareable.{Shareable};
 ghost use Rattle.balanced_results.specs.Begun.{Listed, sitesOf};
 ghost use Rattle.balanced_results.specs.Plans.{dividedBy, roundsBy, RankedTable};
 
@@ -26,7 +26,7 @@ fn divide_table(
     shares: &mut [u16],
 ) -> u32
     requires { ⌜ RankedTable (now values) (length (now division)) m (now rows) ⌝ }
-    requires { ⌜ Listed planned (length (now division)) m (now sites) ⌝ }
+    requires { ⌜ Listed planned m (now sites) ⌝ }
     requires { ⌜ (length (now shares) ≡ m + 1) × ((a : ℕ) → at (now shares) a ≡ 0) ⌝ }
     ensures total { λ r. ⌜ r ≡ divisionTotal (valueIn (was values) m) (dividedBy (valueIn (was values) m) (length (was division)) m (is sites)) ⌝ }
     ensures division { λ _. ⌜ is division ≡ dividedBy (valueIn (was values) m) (length (was division)) m (is sites) ⌝ }
@@ -48,7 +48,7 @@ fn best(
     sites: &mut [u8],
     division: &mut [u8],
 ) -> u32
-    requires { ⌜ Accepted (townOf n m (now scores) (now rows)) × Listed planned n m (now sites) ⌝ }
+    requires { ⌜ Accepted (townOf n m (now scores) (now rows)) × Listed planned m (now sites) ⌝ }
     requires { ⌜ length (now division) ≡ n ⌝ }
     ensures total { λ r. ⌜ r ≡ planTotal (town n m scores rows) (balancedDivision (town n m scores rows) (is sites)) ⌝ }
     ensures division { λ _. ⌜ is division ≡ balancedDivision (town n m scores rows) (is sites) ⌝ }
@@ -79,7 +79,7 @@ pub fn divide(
     sites: &[u8],
     division: &mut [u8],
 ) -> u32
-    requires { ⌜ Accepted (townOf n m (now scores) (now rows)) × Shareable n m (now sites) ⌝ }
+    requires { ⌜ Accepted (townOf n m (now scores) (now rows)) × Shareable m (now sites) ⌝ }
     requires { ⌜ length (now division) ≡ n ⌝ }
     ensures total { λ r. ⌜ r ≡ planTotal (town n m scores rows) (balancedDivision (town n m scores rows) (was sites)) ⌝ }
     ensures division { λ _. ⌜ is division ≡ balancedDivision (town n m scores rows) (was sites) ⌝ }
@@ -99,7 +99,7 @@ pub fn plan(
     division: &mut [u8],
     chosen: &mut [u8],
 ) -> u32
-    requires { ⌜ Accepted (townOf n m (now scores) (now rows)) × Divides n m (length (now chosen)) ⌝ }
+    requires { ⌜ Accepted (townOf n m (now scores) (now rows)) × (0 < length (now chosen)) × (length (now chosen) ≤ m) ⌝ }
     requires { ⌜ length (now division) ≡ n ⌝ }
     ensures total { λ r. ⌜ r ≡ balancedTotal (town n m scores rows) (length (was chosen)) ⌝ }
     ensures division { λ _. ⌜ is division ≡ balancedDivision (town n m scores rows) (balancedSites (town n m scores rows) (length (was chosen))) ⌝ }

@@ -7,7 +7,8 @@ ghost use Rattle.counting.specs.Lists.{at};
 ghost use Rattle.counting.specs.Greatest.{greatest};
 ghost use Rattle.tables.specs.Tables.{valueIn};
 ghost use Rattle.choices.specs.Scan.{unflagged};
-ghost use Rattle.balanced_plan.specs.Rounds.{worth, choice, taken, rounds, evenShare};
+ghost use Rattle.shares.specs.Rounds.{roundShare};
+ghost use Rattle.balanced_plan.specs.Rounds.{worth, choice, taken, rounds};
 ghost use Rattle.balanced_rounds.specs.Lines.{Orders, Lines, RoundTables, WellFormed, lineWorth, stateOf, emptyState};
 
 mod walks;
@@ -134,18 +135,17 @@ impl State {
     }
 }
 
-// The state after k rounds, each with the share n / k.
+// The state after k rounds, each with its own share.
 pub fn rounds(values: &[u32], orders: &[u16], n: usize, m: usize, k: usize) -> State
     requires { ⌜ RoundTables n m (now values) (now orders) ⌝ }
     requires { ⌜ (0 < k) × (k ≤ m) ⌝ }
     ensures held { λ r. ⌜ WellFormed r × (r .count ≡ k) ⌝ }
     ensures state { λ r. ⌜ ((key : ℕ → ℕ → ℕ) → Orders key n m (now (orders .entry))
-        → stateOf n r ≡ rounds (valueIn (now (values .entry)) m) key n m (evenShare n k) k) ⌝ }
+        → stateOf n r ≡ rounds (valueIn (now (values .entry)) m) key n m (roundShare n k) k) ⌝ }
 {
-    let q = n / k;
     let mut state = State::empty();
     for i in 0..k {
-        state = state.round(values, orders, n, m, q);
+        state = state.round(values, orders, n, m, shares::of_round(n, k, i));
     }
     state
 }

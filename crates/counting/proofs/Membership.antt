@@ -1,9 +1,9 @@
 -- Laws of membership in a list: where a number stands, sums over the numbers that stand in it, that none stands twice, and that a site is
 -- left while a list is short (the pigeonhole).
 -- Assumes nothing.
-use mathlib.Core.Path.{_≡_, refl, sym}
+use mathlib.Core.Path.{_≡_, refl, sym, ap, _∙_}
 use mathlib.Core.Bool.{Bool, true, false, cond, not, _||_, true≢false, and-eq-true-iff, or-assoc, or-false}
-use mathlib.Mathlib.Data.Bool.Basic.{dichotomy, or-eq-false-eq-eq-false-and-eq-false}
+use mathlib.Mathlib.Data.Bool.Basic.{dichotomy}
 use mathlib.Core.Logic.{_⊎_, inl, inr, ⊎-elim}
 use mathlib.Core.List.{List, [], _∷_, _++_}
 use Prim.Native.Nat.{ℕ, zero, suc, _+_, _≤_, _<_}
@@ -63,14 +63,17 @@ has-append a (b ∷ S) T = rw (has-append a S T, or-assoc)
 pub has-last : (a b : ℕ) (S : List ℕ) → has a (S ++ (b ∷ [])) ≡ true → (has a S ≡ true) ⊎ (a ≡ b)
 has-last a b S h = ⊎-elim inl (λ e. inr (eqb-true a b (rw or-false at e))) (or-cases (has a S) (has a (b ∷ [])) (rw has-append at h))
 
--- a list with no number twice still has none twice once a new number is put behind it
+-- a list with no number twice still has none twice once others, which are different too, are put behind it
+pub distinct-append : (S T : List ℕ) → distinct S ≡ true → distinct T ≡ true → ((a : ℕ) → has a S ≡ true → has a T ≡ false) → distinct (S ++ T) ≡ true
+distinct-append [] T d e o = e
+distinct-append (a ∷ S) T d e o =
+    let (new, apart) = and-eq-true-iff (not (has a S)) (distinct S) .0 d in
+    let here : has a (S ++ T) ≡ false = rw (has-append a S T, not-true (has a S) new, o a (has-head a S)) refl in
+    rw here (distinct-append S T apart e (λ b h. o b (has-tail b a S h)))
+
+-- or one new number
 pub distinct-last : (a : ℕ) (S : List ℕ) → distinct S ≡ true → has a S ≡ false → distinct (S ++ (a ∷ [])) ≡ true
-distinct-last a [] d h = refl
-distinct-last a (b ∷ S) d h =
-    let (new, apart) = and-eq-true-iff (not (has b S)) (distinct S) .0 d in
-    let (other, out) = or-eq-false-eq-eq-false-and-eq-false (eqb a b) (has a S) .0 h in
-    let away : eqb b a ≡ false = ne-eqb b a (λ e. eqb-false a b other (sym e)) in
-    rw (has-append b S, not-true (has b S) new, away) (distinct-last a S apart out)
+distinct-last a S d h = distinct-append S (a ∷ []) d refl (λ b i. rw (ne-eqb b a (λ e. true≢false (sym i ∙ ap (λ (x : ℕ). has x S) e ∙ h))) refl)
 
 -- a sum of numbers that are no greater is no greater
 pub sum-le : (f g : ℕ → ℕ) (S : List ℕ) → ((a : ℕ) → has a S ≡ true → f a ≤ g a) → sum f S ≤ sum g S

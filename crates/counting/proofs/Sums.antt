@@ -43,6 +43,14 @@ pub sumOf-le : (n : ℕ) (f g : ℕ → ℕ) → ((i : ℕ) → i < n → f i �
 sumOf-le zero f g h = omega arith
 sumOf-le (suc n) f g h = omega (arith, h n (omega arith), sumOf-le n f g (λ i l. h i (omega arith)))
 
+-- where one sum is no greater, though nothing in it is less, everything is equal
+pub sumOf-tight : (n : ℕ) (f g : ℕ → ℕ) → ((i : ℕ) → i < n → f i ≤ g i) → sumOf n g ≤ sumOf n f → (i : ℕ) → i < n → f i ≡ g i
+sumOf-tight zero f g low most i l = absurd (omega arith)
+sumOf-tight (suc n) f g low most i l =
+    let rest = sumOf-le n f g (λ j k. low j (omega arith)) in
+    by-cases (decLt i n) (sumOf-tight n f g (λ j k. low j (omega arith)) (omega (arith, low n (omega arith))) i)
+    (λ o. let e : i ≡ n = omega arith in rw e (omega (arith, rest, low n (omega arith))))
+
 -- a sum of which one number is x more is x more
 pub sumOf-more : (n : ℕ) (f g : ℕ → ℕ) (b x : ℕ) → b < n → f b ≡ g b + x → ((i : ℕ) → i ≢ b → f i ≡ g i) → sumOf n f ≡ sumOf n g + x
 sumOf-more zero f g b x l e h = absurd (omega arith)

@@ -2,19 +2,21 @@
 -- what a loop over the streets adds up. D is a division, c shares, d prices.
 -- Assumes nothing.
 use mathlib.Core.Path.{_≡_, refl, sym}
-use mathlib.Core.Logic.{⊎-elim, by-cases}
+use mathlib.Core.Logic.{_≢_, ⊎-elim, by-cases}
 use mathlib.Core.List.{List, [], _∷_, _++_}
 use Prim.Native.Nat.{ℕ, zero, suc, _+_, _*_, _≤_, _<_, pred, suc-le-suc}
-use native.Mathlib.Nat.{le-of-suc-le-suc, le-antisymm, le-of-eq, eq-or-lt-of-le}
+use native.Mathlib.Nat.{suc-inj, le-of-suc-le-suc, le-antisymm, le-of-eq, eq-or-lt-of-le}
 use native.Mathlib.Decide.{decLt}
 use native.Mathlib.Omega.{arith}
 use lib.Dec.{eqb, eqb·zero-suc, eqb·suc-zero, eqb·suc-suc}
 use lib.ListN.{length, take, set}
-use borrow.Author.Tests.{eq-eqb}
+use borrow.Author.Tests.{eq-eqb, ne-eqb}
 use Rattle.counting.specs.Words.{one, sumOf}
 use Rattle.counting.specs.Lists.{at, count}
 use Rattle.counting.specs.Buffers.{joined, listOf}
-use Rattle.counting.proofs.Sums.{listOf-length}
+use Rattle.counting.specs.Sites.{Sites}
+use Rattle.counting.proofs.Membership.{has-head, has-tail}
+use Rattle.counting.proofs.Sums.{listOf-length, sumOf-more, sumOf-even}
 use Rattle.division.specs.Shares.{share, less, InShares, divisionTotal, dot, shareSum}
 
 -- one of two numbers is less, or they are the same
@@ -160,3 +162,14 @@ unfolding divisionTotal joined
 divisionTotal-sum v zero g = refl
 divisionTotal-sum v (suc n) g =
     omega (arith, rw listOf-length at (divisionTotal-last v (listOf n g) (g n)), divisionTotal-sum v n g)
+
+-- the streets of the sites 1 to m are all streets, where each goes to one of these
+pub count-sum : (m : ℕ) (D : List ℕ) → Sites m D → sumOf m (λ i. count D (suc i)) ≡ length D
+unfolding count
+count-sum m [] w = omega (arith, sumOf-even m 0)
+count-sum m (zero ∷ D) w = absurd (omega (arith, w 0 refl))
+count-sum m (suc b ∷ D) w =
+    let here : count (suc b ∷ D) (suc b) ≡ count D (suc b) + 1 = rw (eq-eqb (suc b) (suc b) refl) (omega arith) in
+    let other : (i : ℕ) → i ≢ b → count (suc b ∷ D) (suc i) ≡ count D (suc i) = λ i n. rw (ne-eqb (suc b) (suc i) (λ e. n (sym (suc-inj e)))) (omega arith) in
+    let again = count-sum m D (λ a h. w a (has-tail a (suc b) D h)) in
+    omega (arith, again, sumOf-more m (λ i. count (suc b ∷ D) (suc i)) (λ i. count D (suc i)) b 1 (w (suc b) (has-head (suc b) D) .1) here other)

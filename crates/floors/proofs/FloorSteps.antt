@@ -4,7 +4,7 @@ use mathlib.Core.Path.{_≡_, ap, _∙_}
 use mathlib.Mathlib.Data.Bool.Basic.{dichotomy}
 use mathlib.Core.Logic.{⊎-elim}
 use mathlib.Core.List.{List}
-use Prim.Native.Nat.{ℕ, _+_, _-_, _*_, _/_, _≤_, _<_, min}
+use Prim.Native.Nat.{ℕ, _+_, _-_, _*_, _≤_, _<_, min}
 use native.Mathlib.Nat.{le-antisymm, mul-le-mul, div-le-self}
 use native.Mathlib.Numerals.{add-one}
 use native.Mathlib.Omega.{arith}
@@ -18,7 +18,7 @@ use Rattle.counting.proofs.Sums.{sumOf-next, sum-end}
 use Rattle.survey.specs.Rows.{rowAt, rankedPart, scoreAt, shortestOf}
 use Rattle.survey.specs.Accepted.{SoundScores}
 use Rattle.survey.proofs.Places.{score-bound}
-use Rattle.balanced_plan.specs.Rounds.{evenShare}
+use Rattle.shares.specs.Rounds.{roundShare}
 use Rattle.balanced_plan.specs.Floor.{ceil, depth, sure, added, floor}
 
 -- the shortest list with one street more
@@ -48,14 +48,16 @@ module _ (score : ℕ → ℕ) (t m k i r : ℕ) (e : r ≡ ceil (m - i) (k - i)
   sure-score x l f = rw place-is at (f ∙ when-yes (score (i + r)) (leb (i + r) t) (le-leb (i + r) t l))
 
 -- what a round adds: its share of at most 400 streets, with a score of at most 1,000 for each
-pub added-is : (scores : List ℕ) (n t m k i x : ℕ) → SoundScores scores → n ≤ mostStreets → x ≡ sure (scoreAt scores) t m k i
-    → (n / k * x ≡ added (evenShare n k) (scoreAt scores) t m k i) × (n / k * x ≤ mostTotal)
-added-is scores n t m k i x sound few e =
+pub added-is : (scores : List ℕ) (n t m k i share x : ℕ) → SoundScores scores → n ≤ mostStreets → (share ≡ roundShare n k i) × (share ≤ n)
+    → x ≡ sure (scoreAt scores) t m k i → (share * x ≡ added (roundShare n k) (scoreAt scores) t m k i) × (share * x ≤ mostTotal)
+added-is scores n t m k i share x sound few (d, most) e =
     let p : ℕ = depth m k i in
     let score : ℕ = scoreAt scores p in
     let low : x ≤ topScore =
-    ⊎-elim (λ o. omega (arith, when-none score (leb p t) o)) (λ y. omega (arith, when-yes score (leb p t) y, score-bound scores p sound)) (dichotomy (leb p t)) in
-    (ap (λ (y : ℕ). n / k * y) e, mul-le-mul {n₁ = n / k} {m₁ = x} {n₂ = 400} {m₂ = 1000} (omega (arith, div-le-self n k)) low)
+    ⊎-elim (λ o. omega (arith, when-none score (leb p t) o)) (λ y. omega (arith, when-yes score (leb p t) y, score-bound scores p sound)) (dichotomy (leb p t)) in (
+      ap (λ (y : ℕ). y * x) d ∙ ap (λ (y : ℕ). roundShare n k i * y) e,
+      mul-le-mul {n₁ = share} {m₁ = x} {n₂ = 400} {m₂ = 1000} (omega arith) low,
+    )
 
 -- the sum with one round more
 pub sum-more : (f : ℕ → ℕ) (i x y : ℕ) → x ≡ sumOf i f → y ≡ f i → x + y ≡ sumOf (i + 1) f

@@ -7,7 +7,7 @@ ghost use Rattle.counting.specs.Bounds.{mostStreets, mostSites, mostTotal};
 ghost use Rattle.survey.specs.Town.{townOf, town};
 ghost use Rattle.survey.specs.Rows.{rowAt, rankedPart, scoreAt, shortestOf};
 ghost use Rattle.survey.specs.Accepted.{SoundScores, Accepted};
-ghost use Rattle.balanced_plan.specs.Rounds.{evenShare};
+ghost use Rattle.shares.specs.Rounds.{roundShare};
 ghost use Rattle.balanced_plan.specs.Floor.{ceil, sure, added};
 ghost use Rattle.plans.specs.Plans.{planFloor};
 
@@ -64,10 +64,10 @@ fn sure(scores: &[u16], t: usize, m: usize, k: usize, i: usize) -> u16
 fn added(scores: &[u16], t: usize, n: usize, m: usize, k: usize, i: usize) -> u32
     requires { ⌜ SoundScores (now scores) ⌝ }
     requires { ⌜ (n ≤ mostStreets) × (m ≤ mostSites) × (k ≤ m) × (i < k) ⌝ }
-    ensures { λ r. ⌜ (r ≡ added (evenShare n k) (scoreAt (now (scores .entry))) t m k i) × (r ≤ mostTotal) ⌝ }
+    ensures { λ r. ⌜ (r ≡ added (roundShare n k) (scoreAt (now (scores .entry))) t m k i) × (r ≤ mostTotal) ⌝ }
 {
-    let score = sure(scores, t, m, k, i);
-    (n / k) as u32 * score as u32
+    let share = shares::of_round(n, k, i);
+    share as u32 * sure(scores, t, m, k, i) as u32
 }
 
 // The floor of k rounds: the sum of what they add.

@@ -83,7 +83,7 @@ sites-more test counts a sites x e l q =
     (omega (arith, sumOf-next a (λ i. one (test (at counts (suc i))))), omega (arith, one-not (test (at counts (suc a)))))
 
 -- what the table says of the sites is said of the division
-pub sites-counted : (counts division : List ℕ) (m : ℕ) (test : ℕ → Bool) → m ≤ 64 → Counted counts division
+sites-counted : (counts division : List ℕ) (m : ℕ) (test : ℕ → Bool) → m ≤ 64 → Counted counts division
     → countOf m (λ i. test (at counts (suc i))) ≡ sitesWith test m division
 sites-counted counts division m test few h = sumOf-same m _ _ (λ i l. ap (λ (x : ℕ). one (test x)) (h .right (suc i) (omega arith)))
 
@@ -93,7 +93,7 @@ sites-same : (f g : ℕ → Bool) (m : ℕ) (division : List ℕ) → ((x : ℕ)
 sites-same f g m division same = sumOf-same m _ _ (λ i l. ap one (same (count division (suc i)) (count-most division (suc i))))
 
 -- a site with at least 1 street and at most all of them is used
-pub used-sites : (m : ℕ) (division : List ℕ) → sitesWith (between 1 (length division)) m division ≡ sitesWith (ltb 0) m division
+used-sites : (m : ℕ) (division : List ℕ) → sitesWith (between 1 (length division)) m division ≡ sitesWith (ltb 0) m division
 used-sites m division = sites-same _ (ltb 0) m division (λ x l. ⊎-elim (none x (length division)) (some x (length division) l) (eq-zero-or-pos x))
   where
     none : (x n : ℕ) → x ≡ 0 → between 1 n x ≡ ltb 0 x
@@ -103,7 +103,7 @@ used-sites m division = sites-same _ (ltb 0) m division (λ x l. ⊎-elim (none 
     some x n h l = rw (le-ltb x 1 l, le-ltb n x h, lt-ltb 0 x l) refl
 
 -- a site with at least and at most a share has that share
-pub share-sites : (q m : ℕ) (division : List ℕ) → sitesWith (between q q) m division ≡ sitesWith (eqb q) m division
+share-sites : (q m : ℕ) (division : List ℕ) → sitesWith (between q q) m division ≡ sitesWith (eqb q) m division
 share-sites q m division = sites-same (between q q) (eqb q) m division (λ x l. by-order q x (more x) (same x) (less x))
   where
     more : (x : ℕ) → q < x → between q q x ≡ eqb q x
@@ -114,6 +114,14 @@ share-sites q m division = sites-same (between q q) (eqb q) m division (λ x l. 
 
     less : (x : ℕ) → x < q → between q q x ≡ eqb q x
     less x l = rw (lt-ltb x q l, ne-eqb q x (λ e. omega arith)) refl
+
+-- both tests by the table
+module _ (counts division : List ℕ) (m x : ℕ) (few : m ≤ 64) (h : Counted counts division) where
+  pub used-counted : x ≡ countOf m (λ i. between 1 (length division) (at counts (suc i))) → x ≡ sitesWith (ltb 0) m division
+  used-counted e = e ∙ sites-counted counts division m (between 1 (length division)) few h ∙ used-sites m division
+
+  pub share-counted : (q : ℕ) → x ≡ countOf m (λ i. between q q (at counts (suc i))) → x ≡ sitesWith (eqb q) m division
+  share-counted q e = e ∙ sites-counted counts division m (between q q) few h ∙ share-sites q m division
 
 -- ---- the total
 -- no street is added yet

@@ -1,17 +1,17 @@
 // The test of a hand-made plan: the number of document 01 that turns it down, and 0 where it passes.
 use survey::check;
 ghost use mathlib.Core.Path.{_≡_};
-ghost use Prim.Native.Nat.{_+_, _*_, _≤_, suc};
-ghost use lib.Dec.{ltb, eqb};
+ghost use Prim.Native.Nat.{_+_, _*_, _≤_, _<_, suc};
+ghost use lib.Dec.{ltb};
 ghost use lib.ListN.{length};
 ghost use Rattle.counting.specs.Bounds.{mostStreets, mostSites};
-ghost use Rattle.counting.specs.Words.{_when_, _unless_, one, countOf};
+ghost use Rattle.counting.specs.Words.{_when_, one, countOf};
 ghost use Rattle.counting.specs.Lists.{at};
 ghost use Rattle.survey.specs.Town.{town, was};
 ghost use Rattle.survey.specs.Rows.{rowAt, scoreOf, value};
 ghost use Rattle.division.specs.Shares.{divisionTotal};
 ghost use Rattle.refusals.specs.Inputs.{handLent};
-ghost use Rattle.refusals.specs.Refusals.{Tried, sitesWith, claimRefusal, freeHandRefusal, balancedHandRefusal};
+ghost use Rattle.refusals.specs.Refusals.{Tried, sitesWith, sharesRefusal, claimRefusal, freeHandRefusal, balancedHandRefusal};
 ghost use Rattle.hand_plans.specs.Counts.{between, Counted};
 
 // How many streets each site has, and how many have none, in one pass over the division.
@@ -51,32 +51,31 @@ fn count_sites(counts: &[usize; 256], m: usize, least: usize, most: usize) -> us
     sites
 }
 
-// The same of a division, whose streets are counted once.
-fn sites_within(division: &[u8], m: usize, least: usize, most: usize) -> usize
-    requires { ⌜ m ≤ mostSites ⌝ }
-    ensures { λ r. ⌜ r ≡ sitesWith (between least most) m (was division) ⌝ }
-{
-    let counts = count_streets(division);
-    count_sites(&counts, m, least, most)
-}
-
 // 18 of a free plan: more than k sites are used. No site has more than all streets, so those with 1 street up to all are the used ones.
 fn used_refusal(division: &[u8], m: usize, k: usize) -> u8
     requires { ⌜ m ≤ mostSites ⌝ }
     ensures { λ r. ⌜ r ≡ 18 when ltb k (sitesWith (ltb 0) m (was division)) ⌝ }
 {
-    if k < sites_within(division, m, 1, division.len()) {
+    let counts = count_streets(division);
+    if k < count_sites(&counts, m, 1, division.len()) {
         return 18;
     }
     0
 }
 
-// 18 of a balanced plan: not exactly k sites have their share.
-fn shared_refusal(division: &[u8], m: usize, k: usize, share: usize) -> u8
-    requires { ⌜ m ≤ mostSites ⌝ }
-    ensures { λ r. ⌜ r ≡ 18 unless eqb (sitesWith (eqb share) m (was division)) k ⌝ }
+// 18 of a balanced plan: not exactly r sites have q + 1 streets, or not exactly k - r have q. The streets are counted once.
+fn shares_refusal(n: usize, m: usize, k: usize, division: &[u8]) -> u8
+    requires { ⌜ (m ≤ mostSites) × (0 < k) × (n ≤ mostStreets) ⌝ }
+    ensures { λ r. ⌜ r ≡ sharesRefusal n m k (was division) ⌝ }
 {
-    if sites_within(division, m, share, share) != k {
+    let q = shares::least(n, k);
+    let r = shares::larger(n, k);
+    let counts = count_streets(division);
+    let more = q + 1;
+    if count_sites(&counts, m, more, more) != r {
+        return 18;
+    }
+    if count_sites(&counts, m, q, q) != k - r {
         return 18;
     }
     0
@@ -150,7 +149,7 @@ pub fn free_hand_refusal(
     claim_refusal(n, m, scores, rows, division, claimed)
 }
 
-// A balanced hand plan: every street goes to a site, and k sites have the same share of the streets.
+// A balanced hand plan: every street goes to a site, and k sites have the rounds' shares, in any order.
 pub fn balanced_hand_refusal(
     n: usize,
     m: usize,
@@ -171,7 +170,7 @@ pub fn balanced_hand_refusal(
     if r != 0 {
         return r;
     }
-    let r = shared_refusal(division, m, k, n / k);
+    let r = shares_refusal(n, m, k, division);
     if r != 0 {
         return r;
     }

@@ -1,16 +1,16 @@
--- Our plans pass their own tests: the division over k different sites, free or in equal shares, with its total is an accepted hand plan.
+-- Our plans pass their own tests: the division over k different sites, free or in the rounds' shares, with its total is an accepted hand plan.
 -- Assumes nothing.
 use mathlib.Core.Path.{_≡_, refl, sym, ap, _∙_}
 use mathlib.Core.Bool.{true}
 use mathlib.Core.Logic.{⊎-elim}
 use mathlib.Core.List.{List}
-use Prim.Native.Nat.{ℕ, zero, suc, _*_, _/_, _≤_, _<_}
-use native.Mathlib.Nat.{eq-zero-or-pos, mul-zero}
+use Prim.Native.Nat.{ℕ, zero, suc, _≤_, _<_}
+use native.Mathlib.Nat.{eq-zero-or-pos}
 use native.Mathlib.Omega.{arith}
 use lib.Dec.{ltb, eqb}
 use lib.ListN.{length}
 use borrow.Author.Tests.{ltb-true}
-use Rattle.counting.specs.Words.{one}
+use Rattle.counting.specs.Words.{one, countOf}
 use Rattle.counting.specs.Lists.{at, has, count}
 use Rattle.counting.specs.Sites.{Choice}
 use Rattle.counting.proofs.Sums.{listOf-length, listOf-at, sumOf-same, sumOf-le, has-index}
@@ -19,16 +19,18 @@ use Rattle.counting.proofs.Listed.{count-has}
 use Rattle.survey.specs.Town.{Town}
 use Rattle.survey.specs.Rows.{listOfStreet, value}
 use Rattle.survey.specs.Refusals.{shareRefusal, surveyRefusal}
-use Rattle.survey.proofs.Sound.{accepted}
-use Rattle.division.specs.Shares.{share, shareAmong, InShares}
+use Rattle.survey.proofs.Sound.{accepted, chosen-within}
+use Rattle.shares.specs.Rounds.{leastShare, roundShare}
+use Rattle.shares.proofs.Sums.{larger-rounds, least-rounds, least-some}
+use Rattle.division.specs.Shares.{share, InShares}
 use Rattle.division.proofs.Counts.{share-fits, has-share}
-use Rattle.division.proofs.Shared.{shares-length, shares-are, listed-count, even-count}
+use Rattle.division.proofs.Shared.{shares-length, shares-are, share-count, listed-count}
 use Rattle.division.proofs.Best.{divide-length}
 use Rattle.free_plan.specs.Greedy.{goesTo}
 use Rattle.free_plan.proofs.Sites.{goes-chosen}
 use Rattle.free_results.proofs.Scored.{served-total}
 use Rattle.refusals.specs.Refusals.{sitesWith, freeHandRefusal, balancedHandRefusal}
-use Rattle.refusals.proofs.Listed.{even}
+use Rattle.refusals.proofs.Listed.{enough}
 use Rattle.refusals.proofs.Passed.{free-passed, balanced-passed}
 use Rattle.refusals.specs.Inputs.{handOf}
 use Rattle.plans.specs.Plans.{listTotal, freeDivision, planTotal, sharesFor, balancedDivision}
@@ -70,7 +72,7 @@ module _ (t : Town) (k own : ℕ) (ok : surveyRefusal t k own ≡ 0) (sites : Li
       (sym (served-total t sites (accepted t k own ok .sound-scores))) low few
 
   -- ---- the balanced division
-  module _ (divides : shareRefusal (t .n) k ≡ 0) (in-shares : InShares (balancedDivision t sites) (sharesFor t sites)) where
+  module _ (passes : shareRefusal (t .n) k ≡ 0) (in-shares : InShares (balancedDivision t sites) (sharesFor t sites)) where
     -- the division
     abbrev D : List ℕ
     D = balancedDivision t sites
@@ -83,29 +85,29 @@ module _ (t : Town) (k own : ℕ) (ok : surveyRefusal t k own ≡ 0) (sites : Li
     served : (a : ℕ) → 0 < share (sharesFor t sites) a → (0 < a) × (a ≤ t .m)
     unfolding share
     served zero h = absurd (omega arith)
-    served (suc a) h = (omega arith, omega (arith, share-fits (sharesFor t sites) (suc a) h, shares-length (λ i. t .n / length sites) sites (t .m)))
+    served (suc a) h = (omega arith, omega (arith, share-fits (sharesFor t sites) (suc a) h, shares-length (roundShare (t .n) (length sites)) sites (t .m)))
 
-    -- the share is above 0, since all n streets are given away
-    some : 0 < t .n / k
-    some =
-        ⊎-elim (λ z. absurd (omega (arith, even (t .n) k divides, ap (λ (x : ℕ). k * x) z, mul-zero k, accepted t k own ok .some-street)))
-        (λ p. p) (eq-zero-or-pos (t .n / k))
+    -- so many sites have a share, above 0, as rounds have it
+    shared : (x : ℕ) → 0 < x → sitesWith (eqb x) (t .m) D ≡ countOf k (λ i. eqb x (roundShare (t .n) k i))
+    shared x some =
+        sumOf-same (t .m) _ _ (λ i l. ap (λ (y : ℕ). one (eqb x y)) (in-shares (suc i) ∙ shares-are q sites (t .m) (plan .sites) (suc i)))
+        ∙ share-count x some q sites (t .m) (plan .sites) (plan .apart)
+        ∙ ap (λ (j : ℕ). countOf j (λ i. eqb x (roundShare (t .n) j i))) (plan .size)
+      where
+        q : ℕ → ℕ
+        q = roundShare (t .n) (length sites)
 
-    -- each site has the share that it has among the listed ones
-    has-streets : (i : ℕ) → count D (suc i) ≡ shareAmong (λ j. t .n / k) sites (suc i)
-    has-streets i =
-        in-shares (suc i) ∙ shares-are (λ j. t .n / length sites) sites (t .m) (plan .sites) (suc i)
-        ∙ ap (λ (x : ℕ). shareAmong (λ j. t .n / x) sites (suc i)) (plan .size)
+    -- k is one of 1 to n
+    some-site : 0 < k
+    some-site = chosen-within t k own ok .0
 
-    -- so k sites have it
-    shared : sitesWith (eqb (t .n / k)) (t .m) D ≡ k
-    shared =
-        sumOf-same (t .m) _ _ (λ i l. ap (λ (x : ℕ). one (eqb (t .n / k) x)) (has-streets i))
-        ∙ even-count (t .n / k) sites (t .m) some (plan .sites) (plan .apart)
-        ∙ plan .size
+    some-share : 0 < leastShare (t .n) k
+    some-share = least-some (t .n) k some-site (enough (t .n) k passes)
 
     -- the balanced division with its own total passes
     pub balanced-list-passes : balancedHandRefusal (handOf t k (balancedDivision t sites) (planTotal t (balancedDivision t sites))) ≡ 0
     balanced-list-passes =
-        balanced-passed (handOf t k D (planTotal t D)) own ok length-D refl divides
-        (λ s l. served (at D s) (has-share D (sharesFor t sites) in-shares s (omega (arith, length-D)))) shared
+        balanced-passed (handOf t k D (planTotal t D)) own ok length-D refl passes
+        (λ s l. served (at D s) (has-share D (sharesFor t sites) in-shares s (omega (arith, length-D))))
+        (shared (suc (leastShare (t .n) k)) (omega arith) ∙ larger-rounds (t .n) k some-site)
+        (shared (leastShare (t .n) k) some-share ∙ least-rounds (t .n) k some-site)

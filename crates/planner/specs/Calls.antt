@@ -19,7 +19,7 @@ use Rattle.planner.specs.declared.Checked.{Checked}
 use Rattle.planner.specs.declared.Answer.{Answer}
 use Rattle.planner.specs.declared.Read.{Read}
 use Rattle.planner.specs.Answers.{Answered, Told, ReadTold, accepts, total, readAccepts}
-use Rattle.planner.specs.Good.{GoodFree, BestDivision, GoodBalanced, ReadsBack, WritesBack}
+use Rattle.planner.specs.Good.{GoodFree, BestDivision, GoodBalanced, SharedHand, ReadsBack, WritesBack}
 
 -- checking a survey
 pub record SurveyChecked (i : SurveyInput) (r : Checked) : Type 0 where
@@ -95,6 +95,8 @@ pub record FreeHandTested (i : HandInput) (r : Answer) : Type 0 where
 pub record BalancedHandTested (i : HandInput) (r : Answer) : Type 0 where
   -- the first number that applies, or the plan's total
   pub answer : Told r (balancedHandRefusal i) (planTotal (i .town) (i .division))
+  -- a plan that passes is a division in the shares of some K sites
+  pub shared : accepts r ≡ true → SharedHand (i .town) (i .k) (i .division)
 
 -- survey file writer; `file` is what the buffer holds afterwards
 pub record FileWritten (i : WriteInput) (file : List ℕ) (r : Answer) : Type 0 where

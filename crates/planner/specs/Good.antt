@@ -11,7 +11,7 @@ use Rattle.survey.specs.Town.{Town}
 use Rattle.survey.specs.Refusals.{kindRefusal, surveyRefusal}
 use Rattle.survey_file.specs.Encode.{mostFile, encode}
 use Rattle.survey_file.specs.Decode.{decode, Given, townIn, chosenIn, kindIn}
-use Rattle.plans.specs.Plans.{listTotal, planTotal, sharesFor, planFloor}
+use Rattle.plans.specs.Plans.{listTotal, planTotal, sharesFor, balancedDivision, planFloor}
 use Rattle.refusals.specs.Inputs.{handOf}
 use Rattle.refusals.specs.Refusals.{freeHandRefusal, balancedHandRefusal}
 
@@ -42,12 +42,20 @@ pub record BestDivision (t : Town) (sites division : List ℕ) (reported : ℕ) 
 pub record GoodBalanced (t : Town) (k : ℕ) (division chosen : List ℕ) (reported : ℕ) : Type 0 where
   -- the sites are k different ones of 1 to m
   pub sites : Choice (t .m) k chosen
-  -- the division is the best one over them in equal shares, and the total is its own
+  -- the division is the best one over them in the rounds' shares, and the total is its own
   pub best : BestDivision t chosen division reported
   -- the total is at least the floor
   pub floor : planFloor t k ≤ reported
   -- the plan passes the test of a balanced hand plan
   pub passes : balancedHandRefusal (handOf t k division reported) ≡ 0
+
+-- a balanced hand plan of k sites that passes: a division in the shares of some list of k different sites, which totals at most as much as the best
+-- one over that list
+pub record SharedHand (t : Town) (k : ℕ) (division : List ℕ) : Type 0 where
+  pub sites : List ℕ
+  pub choice : Choice (t .m) k sites
+  pub in-shares : InShares division (sharesFor t sites)
+  pub most : planTotal t division ≤ planTotal t (balancedDivision t sites)
 
 -- a survey that was written: the first bytes of the buffer are a file that reading gives back as this very survey
 pub record ReadsBack (t : Town) (k kind : ℕ) (file : List ℕ) (size : ℕ) : Type 0 where

@@ -86,8 +86,8 @@ pub fn free_division(
     Answer::Total(free_results::divide(n, m, scores, rows, sites, division))
 }
 
-// The best balanced division over a list of sites, into a buffer of n bytes: each site gets the same number of streets. Refuses with 1, 2, 3, 5,
-// 6, 8, 9, 10, 11, 17 or 20.
+// The best balanced division over a list of sites, into a buffer of n bytes: each site gets its share of the streets, n divided by the length of the
+// list, and where something is left over, the first sites of the list get one street more each. Refuses with 1, 2, 3, 5, 6, 8, 9, 10, 11, 17 or 20.
 pub fn balanced_division(
     n: usize,
     m: usize,
@@ -124,8 +124,8 @@ pub fn free_plan(
     Answer::Total(free_results::plan(n, m, scores, rows, division, chosen))
 }
 
-// The balanced plan of k sites, into buffers of n and of k bytes: every site gets the same number of streets. Refuses with 1, 2, 3, 5, 6, 8, 9,
-// 10 or 11.
+// The balanced plan of k sites, into buffers of n and of k bytes: every site gets its share of the streets, n / k, and the first n % k chosen sites get
+// one street more each. Refuses with 1, 2, 3, 5, 6, 8, 9, 10 or 11.
 pub fn balanced_plan(
     n: usize,
     m: usize,
@@ -175,8 +175,8 @@ pub fn free_hand(
     Answer::Total(claimed)
 }
 
-// Tests a hand-made balanced plan, in which k sites have n / k streets each, and the total that is claimed for it; gives the plan's total. Refuses
-// with 1, 2, 3, 5, 6, 8, 9, 10, 11, 17, 18 or 19.
+// Tests a hand-made balanced plan, in which k sites have the shares of a balanced plan in any order, and the total that is claimed for it; gives the
+// plan's total. Refuses with 1, 2, 3, 5, 6, 8, 9, 10, 11, 17, 18 or 19.
 pub fn balanced_hand(
     n: usize,
     m: usize,

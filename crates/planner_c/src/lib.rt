@@ -46,7 +46,7 @@ fn packed_answer(answer: Answer) -> u64
 pub extern "C" fn planner_version() -> u32
     ensures { λ r. ⌜ r ≡ version ⌝ }
 {
-    202600
+    202601
 }
 
 // Checks a survey of n streets and m sites of which k are to be chosen; its total is 0.
@@ -108,7 +108,7 @@ pub extern "C" fn planner_free_division(
     packed_answer(planner::free_division(n, m, scores, rows, sites, division))
 }
 
-// The best balanced division over a list of sites, into a buffer of n bytes: each site gets the same number of streets.
+// The best balanced division over a list of sites, into a buffer of n bytes: each site gets its share, the first sites of the list one street more.
 #[no_mangle]
 pub extern "C" fn planner_balanced_division(
     n: usize,
@@ -139,7 +139,7 @@ pub extern "C" fn planner_free_plan(
     packed_answer(planner::free_plan(n, m, k, scores, rows, division, chosen))
 }
 
-// The balanced plan of k sites, into buffers of n and of k bytes: every site gets the same number of streets.
+// The balanced plan of k sites, into buffers of n and of k bytes: every site gets its share, the first chosen sites one street more.
 #[no_mangle]
 pub extern "C" fn planner_balanced_plan(
     n: usize,
@@ -179,7 +179,7 @@ pub extern "C" fn planner_free_hand(
     packed_answer(planner::free_hand(n, m, k, scores, rows, division, claimed))
 }
 
-// Tests a hand-made balanced plan: k sites with n / k streets each, and the total that is claimed for it.
+// Tests a hand-made balanced plan: k sites with the shares of a balanced plan, and the total that is claimed for it.
 #[no_mangle]
 pub extern "C" fn planner_balanced_hand(
     n: usize,

@@ -9,9 +9,10 @@ use Rattle.counting.specs.Buffers.{listOf}
 use Rattle.survey.specs.Town.{Town}
 use Rattle.survey.specs.Rows.{listOfStreet, streetPlace, scoreAt, value, shortest}
 use Rattle.free_plan.specs.Greedy.{total, greedy, goesTo}
+use Rattle.shares.specs.Rounds.{roundShare}
 use Rattle.division.specs.Shares.{divisionTotal, sharesOf}
 use Rattle.division.specs.Divide.{divide}
-use Rattle.balanced_plan.specs.Rounds.{State, rounds, placeKey, evenShare}
+use Rattle.balanced_plan.specs.Rounds.{State, rounds, placeKey}
 use Rattle.balanced_plan.specs.Floor.{floor}
 
 -- total of a list of sites
@@ -32,7 +33,7 @@ planTotal t division = divisionTotal (value t) division
 
 -- the shares of the sites of a list: the i-th of them has the share of round i
 abbrev pub sharesFor : Town → List ℕ → List ℕ
-sharesFor t sites = sharesOf (evenShare (t .n) (length sites)) sites (t .m)
+sharesFor t sites = sharesOf (roundShare (t .n) (length sites)) sites (t .m)
 
 -- the best balanced division over a list of sites
 abbrev pub balancedDivision : Town → List ℕ → List ℕ
@@ -44,7 +45,7 @@ streetKey t = placeKey (streetPlace t) (t .m)
 
 -- the balanced plan after its rounds; its sites are these, and its division the best one over them
 abbrev pub balancedRounds : Town → ℕ → State
-balancedRounds t k = rounds (value t) (streetKey t) (t .n) (t .m) (evenShare (t .n) k) k
+balancedRounds t k = rounds (value t) (streetKey t) (t .n) (t .m) (roundShare (t .n) k) k
 
 abbrev pub balancedSites : Town → ℕ → List ℕ
 balancedSites t k = balancedRounds t k .chosen
@@ -55,4 +56,4 @@ balancedTotal t k = planTotal t (balancedDivision t (balancedSites t k))
 
 -- the floor
 abbrev pub planFloor : Town → ℕ → ℕ
-planFloor t k = floor (evenShare (t .n) k) (scoreAt (t .scores)) (shortest t) (t .m) k
+planFloor t k = floor (roundShare (t .n) k) (scoreAt (t .scores)) (shortest t) (t .m) k

@@ -33,9 +33,22 @@ p5-text =
 abbrev text-12 : List ℕ
 text-12 = 114 ∷ 101 ∷ 102 ∷ 117 ∷ 115 ∷ 101 ∷ 100 ∷ 32 ∷ 49 ∷ 50 ∷ 10 ∷ []
 
--- P7, balanced, as a file: three sites do not divide four streets
+-- P7, balanced, as a file: four streets over three sites
 abbrev p7 : List ℕ
 p7 = encode (townOf 4 3 (2 ∷ 1 ∷ 0 ∷ []) (1 ∷ 2 ∷ 3 ∷ 1 ∷ 3 ∷ 2 ∷ 2 ∷ 1 ∷ 0 ∷ 3 ∷ 2 ∷ 1 ∷ [])) 3 1
+
+-- total 8, sites 1 2 3, street 1 1 1, street 2 1 1, street 3 2 1, street 4 3 1
+abbrev p7-text : List ℕ
+p7-text =
+    (116 ∷ 111 ∷ 116 ∷ 97 ∷ 108 ∷ 32 ∷ 56 ∷ 10 ∷ []) ++ (115 ∷ 105 ∷ 116 ∷ 101 ∷ 115 ∷ 32 ∷ 49 ∷ 32 ∷ 50 ∷ 32 ∷ 51 ∷ 10 ∷ []) ++
+    (115 ∷ 116 ∷ 114 ∷ 101 ∷ 101 ∷ 116 ∷ 32 ∷ 49 ∷ 32 ∷ 49 ∷ 32 ∷ 49 ∷ 10 ∷ []) ++
+    (115 ∷ 116 ∷ 114 ∷ 101 ∷ 101 ∷ 116 ∷ 32 ∷ 50 ∷ 32 ∷ 49 ∷ 32 ∷ 49 ∷ 10 ∷ []) ++
+    (115 ∷ 116 ∷ 114 ∷ 101 ∷ 101 ∷ 116 ∷ 32 ∷ 51 ∷ 32 ∷ 50 ∷ 32 ∷ 49 ∷ 10 ∷ []) ++
+    (115 ∷ 116 ∷ 114 ∷ 101 ∷ 101 ∷ 116 ∷ 32 ∷ 52 ∷ 32 ∷ 51 ∷ 32 ∷ 49 ∷ 10 ∷ [])
+
+-- one street over two sites, balanced, as a file
+abbrev few : List ℕ
+few = encode (townOf 1 2 (1 ∷ 0 ∷ []) (1 ∷ 2 ∷ [])) 2 1
 
 -- P8 as a file of a kind, and its listing: total 0, sites 1, street 1, the site and place 0
 abbrev p8 : ℕ → List ℕ
@@ -47,8 +60,8 @@ p8-text site =
     (115 ∷ 116 ∷ 114 ∷ 101 ∷ 101 ∷ 116 ∷ 32 ∷ 49 ∷ 32 ∷ site ∷ 32 ∷ 48 ∷ 10 ∷ [])
 
 -- an unserved street has site 0, and a site that is not ranked place 0
-pub worked : (printed p5 ≡ p5-text) × (printed [] ≡ text-12) × (printed p7 ≡ refusedLine 5)
+pub worked : (printed p5 ≡ p5-text) × (printed [] ≡ text-12) × (printed p7 ≡ p7-text) × (printed few ≡ refusedLine 5)
     × (printed (p8 0) ≡ p8-text 48) × (printed (p8 1) ≡ p8-text 49)
 unfolding _when_ _unless_ _orElse_ firstOf count seek greatest joined share less divisionTotal divide ordered rounds encode past fileRefusal digits planText
     printed
-worked = (refl, refl, refl, refl, refl)
+worked = (refl, refl, refl, refl, refl, refl)

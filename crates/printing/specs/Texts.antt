@@ -35,7 +35,7 @@ abbrev pub answerText : Answer → ℕ → List ℕ → List ℕ → List ℕ �
 answerText (answer.Total total) m rows sites division = listing m rows total sites division
 answerText (answer.Refused x) m rows sites division = refusedLine x
 
--- the text of an accepted survey by its kind, 0 free and 1 balanced: a balanced one is refused with 5 where its sites do not divide its streets
+-- the text of an accepted survey by its kind, 0 free and 1 balanced: a balanced one is refused with 5 where it has more sites than streets
 unfoldable pub planText : Town → ℕ → ℕ → List ℕ
 planText t k kind = unlessRefused (shareRefusal (t .n) k unless eqb kind 0) (cond (eqb kind 0) (freeListing t k) (balancedListing t k))
 

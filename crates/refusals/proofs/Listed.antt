@@ -1,15 +1,15 @@
--- What an accepted call holds: its survey, the number of sites, the list of sites that it was given, equal shares, and the lengths of the
--- buffers that it was lent.
+-- What an accepted call holds: its survey, the number of sites, the list of sites that it was given, a street for each site, and the lengths of
+-- the buffers that it was lent.
 -- Assumes nothing.
 use mathlib.Core.Path.{_≡_, sym, subst, _∙_}
 use mathlib.Core.Bool.{true}
 use mathlib.Core.Logic.{by-cases}
 use mathlib.Core.List.{List}
-use Prim.Native.Nat.{ℕ, _*_, _/_, _%_, _≤_, _<_}
-use native.Mathlib.Nat.{div-add-mod}
+use Prim.Native.Nat.{ℕ, _≤_, _<_}
 use native.Mathlib.Decide.{decLt}
 use native.Mathlib.Omega.{arith}
-use lib.Dec.{lit<}
+use lib.Dec.{ltb, lit<}
+use borrow.Author.Tests.{ltb-false}
 use lib.ListN.{length, take}
 use Rattle.counting.specs.Words.{_when_}
 use Rattle.counting.specs.Lists.{at, has, distinct}
@@ -25,16 +25,24 @@ use Rattle.refusals.specs.Inputs.{SurveyInput, ListInput, DivisionInput,
 use Rattle.refusals.specs.Refusals.{Tried, rangeRefusal, rangesRefusal, listRefusal, listedRefusal, listTotalRefusal, freeDivisionRefusal}
 use Rattle.refusals.specs.Refusals.{balanceRefusal, balancedDivisionRefusal, buffersRefusal, freePlanRefusal, balancedPlanRefusal, floorRefusal}
 
--- ---- a given list of sites that is not refused: each is one of 1 to m, and none is listed twice
+-- ---- sites that are not refused: each is one of 1 to m
+module _ (m : ℕ) (sites : List ℕ) (e : rangesRefusal 1 m sites ≡ 0) where
+  ranges-at : (i : ℕ) → i < length sites → (0 < at sites i) × (at sites i ≤ m)
+  ranges-at i l = within 17 (at sites i) 1 m (lit< tt) (first-none (length sites) (λ j. rangeRefusal 1 m (at sites j)) e i l)
+
+  pub ranges-sites : Sites m sites
+  ranges-sites a h = let (i, l, q) = has-index a sites h in subst (λ (b : ℕ). (0 < b) × (b ≤ m)) q (ranges-at i l)
+
+-- in a given list none is listed twice
 module _ (m : ℕ) (sites : List ℕ) (e : listRefusal m sites ≡ 0) where
-  list-at : (i : ℕ) → i < length sites → (0 < at sites i) × (at sites i ≤ m)
-  list-at i l = within 17 (at sites i) 1 m (lit< tt) (first-none (length sites) (λ j. rangeRefusal 1 m (at sites j)) (or-zero (rangesRefusal 1 m sites) _ e .0) i l)
+  list-ranges : rangesRefusal 1 m sites ≡ 0
+  list-ranges = or-zero (rangesRefusal 1 m sites) _ e .0
 
   list-low : (i : ℕ) → at sites i ≤ m
-  list-low i = by-cases (decLt i (length sites)) (λ l. list-at i l .1) (λ l. omega (arith, at-past sites i (omega arith)))
+  list-low i = by-cases (decLt i (length sites)) (λ l. ranges-at m sites list-ranges i l .1) (λ l. omega (arith, at-past sites i (omega arith)))
 
   pub list-sites : Sites m sites
-  list-sites a h = let (i, l, q) = has-index a sites h in subst (λ (b : ℕ). (0 < b) × (b ≤ m)) q (list-at i l)
+  list-sites = ranges-sites m sites list-ranges
 
   pub list-apart : distinct sites ≡ true
   list-apart = apart sites (λ i l. when-zero 20 _ (lit< tt) (first-none (length sites) (λ j. 20 when has (at sites j) (take j sites)) (or-zero (rangesRefusal 1 m sites) _ e .1) i l))
@@ -66,15 +74,13 @@ called t k own e = let (some, few) = chosen-within t k own e in record { survey 
 pub fits : (given due : ℕ) → lengthRefusal given due ≡ 0 → given ≡ due
 fits given due = exact 6 given due (lit< tt)
 
--- a number of sites that is not refused divides the streets into equal shares
-pub even : (n k : ℕ) → shareRefusal n k ≡ 0 → k * (n / k) ≡ n
-even n k e = omega (arith, exact 5 (n % k) 0 (lit< tt) e, div-add-mod n k)
+-- of sites that are not refused there are no more than streets
+pub enough : (n k : ℕ) → shareRefusal n k ≡ 0 → k ≤ n
+enough n k e = ltb-false n k (when-zero 5 (ltb n k) (lit< tt) e)
 
--- and its division has a place for each street
-pub balance-fits : (n k : ℕ) (division : List ℕ) → balanceRefusal n k division ≡ 0 → (k * (n / k) ≡ n) × (length division ≡ n)
-balance-fits n k division e =
-    let (s, l) = or-zero (shareRefusal n k) _ e in
-    (even n k s, fits (length division) n l)
+-- a balanced division that is not refused has a place for each street
+pub balance-fits : (n k : ℕ) (division : List ℕ) → balanceRefusal n k division ≡ 0 → length division ≡ n
+balance-fits n k division e = fits (length division) n (or-zero (shareRefusal n k) _ e .1)
 
 pub buffers-fit : (n k : ℕ) (division chosen : List ℕ) → buffersRefusal n k division chosen ≡ 0 → (length division ≡ n) × (length chosen ≡ k)
 buffers-fit n k division chosen e =
@@ -106,8 +112,7 @@ module _ {i : DivisionInput} {x : ℕ} (tried : Tried balancedDivisionRefusal i 
   pub balanced-division-listed : Listed (i .town) (i .sites)
   balanced-division-listed = listed (i .town) (i .sites) _ (passed tried z)
 
-  -- its sites have equal shares, which make up all streets, and its buffer has a place for each street
-  pub balanced-division-fits : (length (i .sites) * (i .town .n / length (i .sites)) ≡ i .town .n) × (length (i .division) ≡ i .town .n)
+  pub balanced-division-fits : length (i .division) ≡ i .town .n
   balanced-division-fits = balance-fits (i .town .n) (length (i .sites)) (i .division) (listed-own (i .town) (i .sites) _ (passed tried z))
 
 module _ {i : PlanInput} {x : ℕ} (tried : Tried freePlanRefusal i x) (z : x ≡ 0) where
@@ -127,10 +132,6 @@ module _ {i : PlanInput} {x : ℕ} (tried : Tried balancedPlanRefusal i x) (z : 
 
   pub balanced-plan-shares : shareRefusal (i .town .n) (i .k) ≡ 0
   balanced-plan-shares = own-passed .0
-
-  -- its sites have equal shares, which make up all streets
-  pub balanced-plan-even : i .k * (i .town .n / i .k) ≡ i .town .n
-  balanced-plan-even = even (i .town .n) (i .k) (own-passed .0)
 
   -- its buffers have a place for each street and for each site
   pub balanced-plan-fits : (length (i .division) ≡ i .town .n) × (length (i .chosen) ≡ i .k)

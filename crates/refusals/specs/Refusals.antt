@@ -1,7 +1,7 @@
 -- For each call the first of document 01's numbers that applies, and 0 where the call is accepted. A division, a list of sites and a file
 -- are the lists of their bytes; of a buffer that is only written its length decides.
 -- Assumes nothing.
-use Prim.Native.Nat.{ℕ, suc, _/_}
+use Prim.Native.Nat.{ℕ, suc, _-_}
 use mathlib.Core.Path.{_≡_}
 use mathlib.Core.Bool.{Bool}
 use mathlib.Core.List.{List}
@@ -13,6 +13,7 @@ use Rattle.counting.specs.Lists.{at, has, count}
 use Rattle.survey.specs.Town.{Town}
 use Rattle.survey.specs.Rows.{value}
 use Rattle.survey.specs.Refusals.{sitesRefusal, kindRefusal, shareRefusal, lengthRefusal, scoresRefusal, rowRefusal, surveyRefusal}
+use Rattle.shares.specs.Rounds.{leastShare, largerShares}
 use Rattle.division.specs.Shares.{divisionTotal}
 use Rattle.survey_file.specs.Encode.{encode}
 use Rattle.survey_file.specs.Decode.{fileRefusal}
@@ -105,12 +106,18 @@ freeHandRefusal i =
     18 when ltb (i .k) (sitesWith (ltb 0) (i .town .m) (i .division)) orElse
     claimRefusal (i .town) (i .division) (i .claimed)
 
--- balanced hand plan; 18: not exactly k sites have n / k streets each
+-- 18 of a balanced plan: not exactly r sites have q + 1 streets, or not exactly k - r have q
+abbrev pub sharesRefusal : ℕ → ℕ → ℕ → List ℕ → ℕ
+sharesRefusal n m k division =
+    18 unless eqb (sitesWith (eqb (suc (leastShare n k))) m division) (largerShares n k) orElse
+    18 unless eqb (sitesWith (eqb (leastShare n k)) m division) (k - largerShares n k)
+
+-- balanced hand plan
 abbrev pub balancedHandRefusal : HandInput → ℕ
 balancedHandRefusal i =
     surveyRefusal (i .town) (i .k) (balanceRefusal (i .town .n) (i .k) (i .division)) orElse
     rangesRefusal 1 (i .town .m) (i .division) orElse
-    18 unless eqb (sitesWith (eqb (i .town .n / i .k)) (i .town .m) (i .division)) (i .k) orElse
+    sharesRefusal (i .town .n) (i .town .m) (i .k) (i .division) orElse
     claimRefusal (i .town) (i .division) (i .claimed)
 
 -- reading a file into a row buffer and a score buffer

@@ -2,7 +2,6 @@
 use survey::Survey;
 use survey::check;
 ghost use mathlib.Core.Path.{_≡_};
-ghost use Prim.Native.Nat.{_%_};
 ghost use Rattle.counting.specs.Words.{_when_, _orElse_};
 ghost use Rattle.survey.specs.Town.{town, was};
 ghost use Rattle.survey.specs.Refusals.{shareRefusal, lengthRefusal};
@@ -143,21 +142,11 @@ pub fn free_division_refusal(
     listed_refusal(n, m, own, scores, rows, sites)
 }
 
-// What is over where n is divided by k; by 0 that is all of n, as in the definitions.
-fn remainder(n: usize, k: usize) -> usize
-    ensures { λ r. ⌜ r ≡ n % k ⌝ }
-{
-    if k == 0 {
-        return n;
-    }
-    n % k
-}
-
-// 5: the number of sites does not divide the number of streets.
+// 5: more sites than streets.
 fn share_refusal(n: usize, k: usize) -> u8
     ensures { λ r. ⌜ r ≡ shareRefusal n k ⌝ }
 {
-    if remainder(n, k) != 0 {
+    if n < k {
         return 5;
     }
     0

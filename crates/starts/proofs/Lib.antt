@@ -1,2 +1,2 @@
-pub mod EqualShares
+pub mod ListedShares
 pub mod FirstDivision

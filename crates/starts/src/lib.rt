@@ -3,18 +3,18 @@ ghost use mathlib.Core.Path.{_≡_};
 ghost use Prim.Native.Nat.{ℕ, _+_, _<_};
 ghost use lib.ListN.{length};
 ghost use Rattle.counting.specs.Lists.{at};
-ghost use Rattle.division.specs.Shares.{InShares, sharesOf, shareSum};
+ghost use Rattle.division.specs.Shares.{InShares, shareSum};
 ghost use Rattle.division.specs.Problem.{Problem, tail};
-ghost use Rattle.starts.specs.Given.{Unshared, Seen};
+ghost use Rattle.starts.specs.Given.{Unshared, Shared, Seen};
 
-// Each listed site gets the share q; m is the number of sites.
-pub fn share_out(sites: &[u8], q: u16, m: usize, shares: &mut [u16])
-    requires { ⌜ Unshared (now sites) m (now shares) ⌝ }
-    ensures { λ _. ⌜ (tail (now (shares .exit)) ≡ sharesOf (λ i. q) (now (sites .entry)) m) × (at (now (shares .exit)) 0 ≡ 0) ⌝ }
+// Each listed site gets the share of the round with its number in the list; there are n streets and m sites.
+pub fn share_out(n: usize, m: usize, sites: &[u8], shares: &mut [u16])
+    requires { ⌜ Unshared n m (now sites) (now shares) ⌝ }
+    ensures { λ _. ⌜ Shared n m (now (sites .entry)) (now (shares .exit)) ⌝ }
 {
     for i in 0..sites.len() {
         let a = sites[i] as usize;
-        shares[a] = q;
+        shares[a] = shares::of_round(n, sites.len(), i) as u16;
     }
 }
 

@@ -1,6 +1,6 @@
 -- What is turned down in a survey, by document 01's numbers. Each definition gives the first number that applies, and 0 where none does.
 -- Assumes nothing.
-use Prim.Native.Nat.{ℕ, _*_, _-_, _%_}
+use Prim.Native.Nat.{ℕ, _*_, _-_}
 use mathlib.Core.Bool.{Bool, _&&_}
 use mathlib.Core.List.{List}
 use lib.Dec.{ltb, eqb}
@@ -27,9 +27,9 @@ chosenRefusal k m = 3 when outside k 1 m
 abbrev pub kindRefusal : ℕ → ℕ
 kindRefusal kind = 4 when ltb 1 kind
 
--- 5: the number of chosen sites does not divide the number of streets
+-- 5: the number of chosen sites, or the length of a given list of sites, is above the number of streets
 abbrev pub shareRefusal : ℕ → ℕ → ℕ
-shareRefusal n k = 5 unless eqb (n % k) 0
+shareRefusal n k = 5 when ltb n k
 
 -- 6: a lent buffer of other than its exact length
 abbrev pub lengthRefusal : ℕ → ℕ → ℕ

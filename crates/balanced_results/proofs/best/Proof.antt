@@ -9,7 +9,6 @@ use Rattle.counting.proofs.Parts.{front-length, front-blank}
 use Rattle.tables.specs.Entries.{Ranked}
 use Rattle.tables.proofs.Filling.{ranked}
 use Rattle.tables.proofs.Tabled.{part-blank, part-room, part-size, street-fits, street-ready, street-same}
-use Rattle.balanced_results.specs.Begun.{Listed}
 use Rattle.balanced_results.proofs.FallingLines.{table-falls}
 use Rattle.balanced_results.proofs.SurveyRounds.{best-surveyed}
 use Rattle.balanced_results.proofs.best.Statement.{statement}
@@ -54,7 +53,7 @@ divide-table-requires c κs =
         table-falls ok _ _ (p .1) (street-same ok _ filled),
       ),
       (
-        along (λ (j : ℕ). Listed (a .planned) j (a .m) (a .sites .now)) (p .1) (p .0 .1),
+        p .0 .1,
         (shares-size (entry i), front-blank (a .m + 1) 65 (omega (arith, ok .few-sites))),
       ),
     )

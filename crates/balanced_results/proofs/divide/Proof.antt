@@ -45,7 +45,7 @@ best-requires : tie.Need-best-requires
 best-requires c κs =
     let i = c .before .before .before in
     let s = entry i in
-    ((s .pre .0 .0, along (λ (L : List ℕ). Shareable (s .args .n) (s .args .m) L) (same i _) (s .pre .0 .1)), s .pre .1)
+    ((s .pre .0 .0, along (λ (L : List ℕ). Shareable (s .args .m) L) (same i _) (s .pre .0 .1)), s .pre .1)
 
 returns : tie.Need-returns
 returns c =

@@ -6,14 +6,14 @@ use native.Mathlib.Omega.{arith}
 use Rattle.counting.specs.Bounds.{mostTotal}
 use Rattle.counting.specs.Words.{sumOf}
 use Rattle.survey.specs.Rows.{scoreAt}
-use Rattle.balanced_plan.specs.Rounds.{evenShare}
+use Rattle.shares.specs.Rounds.{roundShare}
 use Rattle.balanced_plan.specs.Floor.{added}
 use Rattle.floors.proofs.FloorSteps.{sum-more, floor-end}
 use Rattle.floors.proofs.floor.Statement.{statement}
 use Rattle.floors.proofs.floor.Tie as tie
 
 abbrev Inv-loop : tie.InvT-loop
-Inv-loop n m k scores rows t total₀ i₀ total i = (i ≤ k) × (total ≡ sumOf i (added (evenShare n k) (scoreAt scores) t m k)) × (total ≤ i * mostTotal)
+Inv-loop n m k scores rows t total₀ i₀ total i = (i ≤ k) × (total ≡ sumOf i (added (roundShare n k) (scoreAt scores) t m k)) × (total ≤ i * mostTotal)
 
 abbrev μ-loop : tie.MeasureT-loop
 μ-loop n m k scores rows t total₀ i₀ total i = k - i
@@ -23,7 +23,7 @@ loop-again c =
     let a = c .before .before .before .before .before .before .args in
     let l = c .before .before .loop in
     let t = c .before .before .before .shortest .result in
-    let f = added (evenShare (a .n) (a .k)) (scoreAt (a .scores .now)) t (a .m) (a .k) in
+    let f = added (roundShare (a .n) (a .k)) (scoreAt (a .scores .now)) t (a .m) (a .k) in
     (omega arith, sum-more f (l .i) _ _ (l .inv .1) (c .added .ensures .0), omega arith)
 
 returns : tie.Need-returns Inv-loop μ-loop
@@ -31,7 +31,7 @@ returns c =
     let a = c .before .before .before .before .before .args in
     let l = c .before .loop in
     let call = c .before .before .shortest in
-    floor-end (evenShare (a .n) (a .k)) (scoreAt (a .scores .now)) (call .result) _ (a .m) (a .k) (l .i) _ (call .ensures) (omega arith) (omega arith)
+    floor-end (roundShare (a .n) (a .k)) (scoreAt (a .scores .now)) (call .result) _ (a .m) (a .k) (l .i) _ (call .ensures) (omega arith) (omega arith)
     (l .inv .1)
 
 pub floor-spec : {M : Type 1} → statement M

@@ -34,11 +34,8 @@ returns-2 c =
     let ranges = or-stop _ _ _ (c .before .ranges-refusal .ensures) (c .if2 .taken) in
     record { first = or-pass _ _ _ _ (survey (c .before .before .before)) (c .before .before .if1 .left) ranges }
 
-div-shared-refusal : tie.Need-div-shared-refusal
-div-shared-refusal c = known c .some-chosen
-
-shared-refusal-requires : tie.Need-shared-refusal-requires
-shared-refusal-requires c κs = known c .few-sites
+shares-refusal-requires : tie.Need-shares-refusal-requires
+shares-refusal-requires c κs = let h = known c in (h .few-sites, h .some-chosen, h .fit .2)
 
 returns-3 : tie.Need-returns-3
 returns-3 c =
@@ -46,7 +43,7 @@ returns-3 c =
     record {
       first = or-pass _ _ _ _ (survey (ranges .before .before)) (ranges .before .if1 .left)
           (or-pass _ _ _ _ (ranges .ranges-refusal .ensures) (c .before .before .if2 .left)
-          (or-stop _ _ _ (c .before .shared-refusal .ensures) (c .if3 .taken)));
+          (or-stop _ _ _ (c .before .shares-refusal .ensures) (c .if3 .taken)));
     }
 
 claim-refusal-requires : tie.Need-claim-refusal-requires
@@ -58,7 +55,7 @@ returns-4 c =
     record {
       first = or-pass _ _ _ _ (survey (ranges .before .before)) (ranges .before .if1 .left)
           (or-pass _ _ _ _ (ranges .ranges-refusal .ensures) (c .before .before .before .if2 .left)
-          (or-pass _ _ _ _ (c .before .before .shared-refusal .ensures) (c .before .if3 .left) (c .claim-refusal .ensures)));
+          (or-pass _ _ _ _ (c .before .before .shares-refusal .ensures) (c .before .if3 .left) (c .claim-refusal .ensures)));
     }
 
 pub balanced-hand-refusal-spec : {M : Type 1} → statement M
@@ -70,8 +67,7 @@ balanced-hand-refusal-spec =
     returns
     (λ c κs. search needs)
     returns-2
-    div-shared-refusal
-    shared-refusal-requires
+    shares-refusal-requires
     returns-3
     claim-refusal-requires
     returns-4)

@@ -12,7 +12,7 @@ divide-requires : tie.Need-divide-requires
 divide-requires c κs =
     let tried = c .before .before .balanced-division-refusal .ensures in
     let z = c .before .if1 .left in
-    ((balanced-division-listed tried z .called .survey, shareable tried z), balanced-division-fits tried z .1)
+    ((balanced-division-listed tried z .called .survey, shareable tried z), balanced-division-fits tried z)
 
 returns-2 : tie.Need-returns-2
 returns-2 c =

@@ -1,17 +1,21 @@
 -- `planner::balanced_hand` meets its contract. Assumes nothing.
 use borrow.Author.Needs.{needs}
-use Rattle.refusals.proofs.Passed.{balanced-claimed}
+use mathlib.Core.Bool.{false≢true}
+use Rattle.refusals.proofs.Passed.{hand-passed}
 use Rattle.planner.proofs.Answers.{told-refused, told-total}
+use Rattle.planner.proofs.BalancedPromises.{shared-hand}
 use Rattle.planner.proofs.balanced_hand.Statement.{statement}
 use Rattle.planner.proofs.balanced_hand.Tie as tie
 
 returns : tie.Need-returns
-returns c = record { answer = told-refused (c .before .balanced-hand-refusal .ensures) (c .if1 .taken) }
+returns c =
+    record { answer = told-refused (c .before .balanced-hand-refusal .ensures) (c .if1 .taken); shared = λ y. absurd (false≢true y) }
 
 returns-2 : tie.Need-returns-2
 returns-2 c =
     let tried = c .before .balanced-hand-refusal .ensures in
-    record { answer = told-total tried (c .if1 .left) (balanced-claimed tried (c .if1 .left)) }
+    let h = hand-passed tried (c .if1 .left) in
+    record { answer = told-total tried (c .if1 .left) (h .right); shared = λ y. shared-hand h }
 
 pub balanced-hand-spec : {M : Type 1} → statement M
 balanced-hand-spec =

@@ -1,10 +1,7 @@
 -- `planner::balanced_plan` meets its contract. Assumes nothing.
 use borrow.Author.Needs.{needs}
-use mathlib.Core.Path.{_≡_}
-use Prim.Native.Nat.{ℕ, _*_, _/_}
 use native.Mathlib.Omega.{arith}
-use Rattle.counting.proofs.Equations.{along}
-use Rattle.refusals.proofs.Listed.{balanced-plan-called, balanced-plan-even, balanced-plan-fits}
+use Rattle.refusals.proofs.Listed.{balanced-plan-called, balanced-plan-fits}
 use Rattle.planner.proofs.BalancedPromises.{balanced-plan-refused, balanced-plan-given}
 use Rattle.planner.proofs.balanced_plan.Statement.{statement}
 use Rattle.planner.proofs.balanced_plan.Tie as tie
@@ -14,13 +11,11 @@ returns c = balanced-plan-refused (c .before .balanced-plan-refusal .ensures) (c
 
 plan-requires : tie.Need-plan-requires
 plan-requires c κs =
-    let n = c .before .before .before .before .before .before .before .before .before .before .args .n in
     let tried = c .before .before .before .balanced-plan-refusal .ensures in
     let z = c .before .before .if1 .left in
     let call = balanced-plan-called tried z in
     let size = balanced-plan-fits tried z in
-    let even = along (λ (j : ℕ). j * (n / j) ≡ n) (size .1) (balanced-plan-even tried z) in
-    ((call .survey, (omega (arith, size .1, call .some), omega (arith, size .1, call .few), even)), size .0)
+    ((call .survey, omega (arith, size .1, call .some), omega (arith, size .1, call .few)), size .0)
 
 returns-2 : tie.Need-returns-2
 returns-2 c =

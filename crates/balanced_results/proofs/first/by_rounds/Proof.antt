@@ -63,22 +63,22 @@ slice-aggregate-copy-bytes-2 c = sym (division-size (c .before .before .before .
 copy-bytes-requires-2 : tie.Need-copy-bytes-requires-2
 copy-bytes-requires-2 c κs = division-size (c .before .before .before .before .before .before .before .before .before)
 
-share-requires : tie.Need-share-requires
-share-requires c κs =
+share-out-requires : tie.Need-share-out-requires
+share-out-requires c κs =
     let i = c .before .before .before .before in
     let a = entry (played i) .args in
     let p = entry (played i) .pre in
-    let ready = rounds-shareable (valueIn (a .values .now) (a .m)) (rowKey (a .m) (a .rows .now)) (streets (played i)) (a .m) (count (played i)) (p .1 .0 .1)
-    (p .1 .0 .2) (p .1 .0 .0) (chosen i) in
-    ((ready, p .0 .0 .few-streets), p .1 .1)
+    let ready = rounds-shareable (valueIn (a .values .now) (a .m)) (rowKey (a .m) (a .rows .now)) (streets (played i)) (a .m) (count (played i)) (p .1 .0 .0)
+    (p .1 .0 .1) (chosen i) in
+    record { few = p .0 .0 .few-streets; within = ready .sites; apart = ready .apart; size = p .1 .1 .0; none = p .1 .1 .1 }
 
 returns : tie.Need-returns
 returns c =
     let i = c .before .before .before .before .before .before .before in
     let a = entry (played i) .args in
     let p = entry (played i) .pre in
-    let begun = rounds-begun (valueIn (a .values .now) (a .m)) (rowKey (a .m) (a .rows .now)) (streets (played i)) (a .m) (count (played i)) (p .1 .0 .1)
-    (p .1 .0 .2) (p .1 .0 .0) (chosen i) (division i) (c .before .before .share .ensures) in
+    let begun = rounds-begun (valueIn (a .values .now) (a .m)) (rowKey (a .m) (a .rows .now)) (streets (played i)) (a .m) (count (played i)) (p .1 .0 .0)
+    (p .1 .0 .1) (chosen i) (division i) (c .before .before .share-out .ensures) in
     (begun, chosen i)
 
 pub by-rounds-spec : {M : Type 1} → statement M
@@ -92,7 +92,7 @@ by-rounds-spec =
     (λ c. search needs)
     slice-aggregate-copy-bytes-2
     copy-bytes-requires-2
-    share-requires
+    share-out-requires
     (λ c. search needs)
     (λ c. search needs)
     (λ c. search needs)

@@ -2,7 +2,6 @@
 use borrow.Author.Needs.{needs}
 use mathlib.Core.Path.{refl, sym}
 use mathlib.Core.Bool.{Bool}
-use lib.ListN.{length}
 use Rattle.counting.proofs.Equations.{along}
 use Rattle.balanced_results.specs.Begun.{Listed}
 use Rattle.balanced_results.proofs.first.divide.Statement.{statement}
@@ -10,7 +9,7 @@ use Rattle.balanced_results.proofs.first.divide.Tie as tie
 
 -- what is asked of the list, where the rounds choose the sites and where not
 abbrev listed : tie.Start → Bool → Type 0
-listed s x = Listed x (length (s .args .division .now)) (s .args .m) (s .args .sites .now)
+listed s x = Listed x (s .args .m) (s .args .sites .now)
 
 by-rounds-requires : tie.Need-by-rounds-requires
 by-rounds-requires c κs =

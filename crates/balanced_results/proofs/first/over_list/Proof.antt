@@ -20,14 +20,13 @@ slice-aggregate-begin c = sym (left-size (c .before .before .before .before .bef
 begin-requires : tie.Need-begin-requires
 begin-requires c κs =
     let s = c .before .before .before .before .before .before .before .before .before .before .before in
-    let shared = c .before .before .before .before .before .share .ensures in
-    (problem _ _ refl (s .pre .0 .0) (shared .size) (shared .nobody), (ap shareSum (shared .right) ∙ for-all (s .pre .0 .1), left-size s ∙ sym (shared .size)))
+    let shared = c .before .before .before .before .before .share-out .ensures in
+    (problem _ _ refl (s .pre .0 .0) (shared .size) (shared .nobody), (ap shareSum (shared .right) ∙ for-all _ (s .pre .0 .1), left-size s ∙ sym (shared .size)))
 
 returns : tie.Need-returns
 returns c =
     record {
-      shareable = c .before .before .before .before .before .before .before .before .before .before .before .before .before .before .before .pre .0 .1;
-      shared = c .before .before .before .before .before .before .before .before .before .share .ensures;
+      shared = c .before .before .before .before .before .before .before .before .before .share-out .ensures;
       divided = c .before .before .before .begin .ensures;
     }
 

@@ -10,7 +10,7 @@ use Rattle.counting.proofs.Parts.{front-length}
 use Rattle.orders.specs.Places.{mostKey}
 use Rattle.tables.specs.Tables.{valueIn}
 use Rattle.tables.proofs.Filling.{table-small}
-use Rattle.balanced_plan.specs.Rounds.{evenShare}
+use Rattle.shares.specs.Rounds.{roundShare}
 use Rattle.balanced_plan.proofs.Agree.{rounds-agree}
 use Rattle.balanced_results.specs.Plans.{rowKey}
 use Rattle.balanced_results.proofs.FallingLines.{key-few, lines-fall}
@@ -99,7 +99,7 @@ returns c =
     let v = valueIn (a .values .now) (a .m) in
     let k = lent-keys _ (keys-size (ordering i)) (rowKey (a .m) (a .rows .now)) (ordering i .fill-keys .ensures) in
     let o = lent-orders _ (orders-size i) _ (i .fill-orders .ensures) in
-    (t .0, t .1 _ (o .1) ∙ rounds-agree v v _ (rowKey (a .m) (a .rows .now)) (a .n) (a .m) (evenShare (a .n) (a .k)) (λ s x l u. refl) k (a .k))
+    (t .0, t .1 _ (o .1) ∙ rounds-agree v v _ (rowKey (a .m) (a .rows .now)) (a .n) (a .m) (roundShare (a .n) (a .k)) (λ s x l u. refl) k (a .k))
 
 pub play-spec : {M : Type 1} → statement M
 play-spec =
