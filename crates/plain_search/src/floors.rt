@@ -1,7 +1,6 @@
 // The floor of a small town.
 use crate::scores;
-use crate::sets;
-use drawn_towns::STREETS;
+use crate::shares;
 use drawn_towns::Town;
 ghost use Prim.Native.Nat.{_≤_};
 ghost use Rattle.drawn_towns.specs.Small.{Small};
@@ -65,18 +64,23 @@ fn score_up_to(town: Town, place: usize, t: usize) -> u32
     wide(town.scores[place - 1])
 }
 
-// What a share of streets gives at the least, summed over the rounds.
+// What the streets of round i give at the least, where t is the length of the shortest list.
+fn added(town: Town, t: usize, i: usize) -> u32
+    requires { ⌜ Small town × (t ≤ town .m) × (i ≤ 5) ⌝ }
+    ensures { λ r. ⌜ r ≤ 600000 ⌝ }
+{
+    let score = score_up_to(town, place(town, i), t);
+    shares::of_round(town, i) as u32 * score
+}
+
+// The floor: what the rounds give at the least, each with its own share.
 pub fn floor(town: Town) -> u32
     requires { ⌜ Small town ⌝ }
 {
     let t = shortest(town);
-    let share = town.n / town.k;
     let mut sum: u32 = 0;
     for i in 0..town.k {
-        sum = sum + score_up_to(town, place(town, i), t);
+        sum = sum + added(town, t, i);
     }
-    if STREETS < share {
-        return 0;
-    }
-    sets::times(share as u64, sum) as u32
+    sum
 }

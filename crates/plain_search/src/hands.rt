@@ -1,5 +1,6 @@
 // What a hand-made plan of a small town is refused for, and 0 where it is right.
 use crate::scores;
+use crate::shares;
 use drawn_towns::STREETS;
 use drawn_towns::Town;
 ghost use Rattle.drawn_towns.specs.Small.{Small};
@@ -63,18 +64,29 @@ pub fn free_refusal(town: Town, division: [u8; STREETS], claimed: u32) -> u8
     claim_refusal(town, division, claimed)
 }
 
+// Whether exactly r sites have q + 1 streets, and exactly k - r have q.
+fn is_shared(town: Town, division: [u8; STREETS]) -> bool
+    requires { ⌜ Small town ⌝ }
+{
+    let q = shares::least(town);
+    let r = shares::larger(town);
+    if sites_with(town, division, q + 1, q + 1) != r {
+        return false;
+    }
+    sites_with(town, division, q, q) == town.k - r
+}
+
 // A balanced plan.
 pub fn balanced_refusal(town: Town, division: [u8; STREETS], claimed: u32) -> u8
     requires { ⌜ Small town ⌝ }
 {
-    if town.n % town.k != 0 {
+    if town.n < town.k {
         return 5;
     }
     if is_out_of_range(town, division, 1) {
         return 17;
     }
-    let share = town.n / town.k;
-    if sites_with(town, division, share, share) != town.k {
+    if !is_shared(town, division) {
         return 18;
     }
     claim_refusal(town, division, claimed)

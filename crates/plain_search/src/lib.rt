@@ -5,3 +5,4 @@ pub mod hands;
 pub mod rounds;
 pub mod scores;
 pub mod sets;
+pub mod shares;

@@ -2,6 +2,7 @@
 use crate::scores;
 use crate::sets;
 use crate::sets::Site;
+use crate::shares;
 use drawn_towns::SITES;
 use drawn_towns::STREETS;
 use drawn_towns::Town;
@@ -83,12 +84,12 @@ fn with_street(town: Town, site: u8, worth: Worth, more: bool) -> Worth
     worth
 }
 
-// What a site is worth: the summed scores of its share of the free streets.
-fn worth_of(town: Town, site: u8, given: [bool; STREETS]) -> Worth
+// What a site is worth in a round: the summed scores of the round's share of the free streets.
+fn worth_of(town: Town, site: u8, given: [bool; STREETS], round: usize) -> Worth
     requires { ⌜ Small town ⌝ }
     ensures { λ r. ⌜ length (r .given) ≡ 8 ⌝ }
 {
-    let share = town.n / town.k;
+    let share = shares::of_round(town, round);
     let mut worth = Worth { total: 0, given };
     for i in 0..STREETS {
         worth = with_street(town, site, worth, i < share);
@@ -97,19 +98,26 @@ fn worth_of(town: Town, site: u8, given: [bool; STREETS]) -> Worth
 }
 
 // The best so far once a site is looked at, which counts only if it is not chosen.
-fn tried(best: Site, town: Town, number: usize, chosen: bool, given: [bool; STREETS]) -> Site
+fn tried(
+    best: Site,
+    town: Town,
+    number: usize,
+    chosen: bool,
+    given: [bool; STREETS],
+    round: usize,
+) -> Site
     requires { ⌜ Small town × (best .number ≤ 5) × (number ≤ 5) ⌝ }
     ensures { λ r. ⌜ r .number ≤ 5 ⌝ }
 {
     if chosen {
         return best;
     }
-    let worth = worth_of(town, number as u8, given);
+    let worth = worth_of(town, number as u8, given, round);
     sets::better(best, number, worth.total)
 }
 
-// The unchosen site of greatest worth, the lowest one of equals.
-fn best_site(town: Town, chosen: [bool; NUMBERS], given: [bool; STREETS]) -> usize
+// The unchosen site of greatest worth in a round, the lowest one of equals.
+fn best_site(town: Town, chosen: [bool; NUMBERS], given: [bool; STREETS], round: usize) -> usize
     requires { ⌜ Small town ⌝ }
     ensures { λ r. ⌜ r ≤ 5 ⌝ }
 {
@@ -118,7 +126,7 @@ fn best_site(town: Town, chosen: [bool; NUMBERS], given: [bool; STREETS]) -> usi
         worth: 0,
     };
     for i in 0..town.m {
-        best = tried(best, town, i + 1, chosen[i + 1], given);
+        best = tried(best, town, i + 1, chosen[i + 1], given, round);
     }
     best.number
 }
@@ -132,8 +140,8 @@ pub fn sites(town: Town) -> [u8; SITES]
     let mut chosen = [false; NUMBERS];
     let mut given = [false; STREETS];
     for i in 0..town.k {
-        let site = best_site(town, chosen, given);
-        let worth = worth_of(town, site as u8, given);
+        let site = best_site(town, chosen, given, i);
+        let worth = worth_of(town, site as u8, given, i);
         sites[i] = site as u8;
         chosen[site] = true;
         given = worth.given;

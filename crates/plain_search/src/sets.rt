@@ -249,7 +249,7 @@ fn powers(k: usize) -> Factors
 }
 
 // A factor times a total.
-pub fn times(factor: u64, total: u32) -> u64
+fn times(factor: u64, total: u32) -> u64
     requires { ⌜ (factor ≤ 3125) × (total ≤ 600000) ⌝ }
     ensures { λ r. ⌜ r ≤ 1875000000 ⌝ }
 {

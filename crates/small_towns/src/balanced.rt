@@ -1,4 +1,4 @@
-// The balanced entries, compared with a search of all divisions. Where k doesn't divide the streets, they have to refuse.
+// The balanced entries, compared with a search of all divisions. Where k is above the number of streets they have to refuse, and only there.
 use crate::answers;
 use crate::answers::Given;
 use crate::answers::UNTOUCHED;
@@ -11,11 +11,11 @@ use plain_search::rounds;
 ghost use Prim.Native.Nat.{_≤_};
 ghost use Rattle.drawn_towns.specs.Small.{Small};
 
-// Whether k divides the streets.
-pub fn is_even(town: Town) -> bool
+// Whether the streets are too few to give each of the k sites one.
+pub fn is_short(town: Town) -> bool
     requires { ⌜ Small town ⌝ }
 {
-    town.n % town.k == 0
+    town.n < town.k
 }
 
 // The best division over the town's list, with what stands among the chosen sites.
@@ -36,7 +36,7 @@ fn best(town: Town, chosen: [u8; SITES]) -> Given
 fn right_division(town: Town) -> Given
     requires { ⌜ Small town ⌝ }
 {
-    if !is_even(town) {
+    if is_short(town) {
         return answers::plain(0, 5);
     }
     best(town, [UNTOUCHED; SITES])
@@ -46,7 +46,7 @@ fn right_division(town: Town) -> Given
 fn right_plan(town: Town) -> Given
     requires { ⌜ Small town ⌝ }
 {
-    if !is_even(town) {
+    if is_short(town) {
         return answers::plain(0, 5);
     }
     let chosen = rounds::sites(town);
@@ -57,7 +57,7 @@ fn right_plan(town: Town) -> Given
 fn right_floor(town: Town) -> Given
     requires { ⌜ Small town ⌝ }
 {
-    if !is_even(town) {
+    if is_short(town) {
         return answers::plain(0, 5);
     }
     answers::plain(floors::floor(town), 0)

@@ -1,9 +1,11 @@
 // Draws small towns, compares what every entry of the library answers for each with what a plain search finds, and prints how much was tried
 // and how many answers were different. The first of these are printed in full.
 use drawn_towns::Town;
+use sizes::Sizes;
 ghost use mathlib.Core.Path.{_≡_};
 ghost use Prim.Native.Nat.{_+_, _≤_};
 ghost use Rattle.drawn_towns.specs.Small.{Small};
+ghost use Rattle.small_towns.specs.Counted.{Counted};
 
 mod answers;
 mod balanced;
@@ -13,6 +15,7 @@ mod free;
 mod hands;
 mod rows;
 mod say;
+mod sizes;
 mod surveys;
 
 // how many towns are tried, and how many wrong answers are printed
@@ -21,14 +24,13 @@ const TOWNS: u64 = 3000;
 const SHOWN: u64 = 3;
 
 // how many answers are compared for each number of sites to choose, and for each row
-const ANSWERS: u64 = 24;
+const ANSWERS: u64 = 32;
 
 const ROW_ANSWERS: u64 = 8;
 
-// What a run counts: the numbers of sites to choose, those of them that don't divide the streets, the answers compared, and the wrong ones.
+// What a run counts: the sizes that were tried, the answers compared, and the wrong ones.
 struct Counts {
-    choices: u64,
-    uneven: u64,
+    sizes: Sizes,
     compared: u64,
     differences: u64,
 }
@@ -51,7 +53,7 @@ fn wrong_plans(town: Town, shown: bool) -> u64
 // How many answers about hand-made plans, and about damaged surveys and files of the town are wrong.
 fn wrong_others(seed: &mut u64, town: Town, shown: bool) -> u64
     requires { ⌜ Small town ⌝ }
-    ensures { λ r. ⌜ r ≤ 16 ⌝ }
+    ensures { λ r. ⌜ r ≤ 24 ⌝ }
 {
     let mut count = hands::wrong_hands(seed, town, false, shown);
     count = count + hands::wrong_hands(seed, town, true, shown);
@@ -63,27 +65,26 @@ fn wrong_others(seed: &mut u64, town: Town, shown: bool) -> u64
 impl Counts {
     // The counts with one number of sites to choose more.
     fn with_choice(mut self, seed: &mut u64, town: Town) -> Self
-        requires { ⌜ Small town ⌝ }
-        requires { ⌜ (self .choices ≤ 1000000) × (self .uneven ≤ self .choices) × (self .compared ≤ 1000000) × (self .differences ≤ 1000000) ⌝ }
-        ensures { λ r. ⌜ (r .choices ≡ self .choices + 1) × (r .uneven ≤ r .choices) × (r .compared ≤ self .compared + 24) × (r .differences ≤ self .differences + 24) ⌝ }
+        requires { ⌜ Small town × Counted (self .sizes) × (self .sizes .choices ≤ 1000000) ⌝ }
+        requires { ⌜ (self .compared ≤ 1000000) × (self .differences ≤ 1000000) ⌝ }
+        ensures { λ r. ⌜ Counted (r .sizes) × (r .sizes .choices ≡ self .sizes .choices + 1) ⌝ }
+        ensures counts { λ r. ⌜ (r .compared ≤ self .compared + 32) × (r .differences ≤ self .differences + 32) ⌝ }
     {
         let shown = self.differences < SHOWN;
+        let sizes = self.sizes;
         self.differences = self.differences + wrong_plans(town, shown);
         self.differences = self.differences + wrong_others(seed, town, shown);
         self.compared = self.compared + ANSWERS;
-        self.choices = self.choices + 1;
-        if balanced::is_even(town) {
-            return self;
-        }
-        self.uneven = self.uneven + 1;
+        self.sizes = sizes.with_choice(town);
         self
     }
 
     // The counts with one town more, and every number of sites to choose.
     fn with_town(mut self, seed: &mut u64, town: Town) -> Self
-        requires { ⌜ Small town ⌝ }
-        requires { ⌜ (self .choices ≤ 100000) × (self .uneven ≤ self .choices) × (self .compared ≤ 900000) × (self .differences ≤ 900000) ⌝ }
-        ensures { λ r. ⌜ (r .choices ≤ self .choices + 5) × (r .uneven ≤ r .choices) × (r .compared ≤ self .compared + 184) × (r .differences ≤ self .differences + 184) ⌝ }
+        requires { ⌜ Small town × Counted (self .sizes) × (self .sizes .choices ≤ 100000) ⌝ }
+        requires { ⌜ (self .compared ≤ 900000) × (self .differences ≤ 900000) ⌝ }
+        ensures { λ r. ⌜ Counted (r .sizes) × (r .sizes .choices ≤ self .sizes .choices + 5) ⌝ }
+        ensures counts { λ r. ⌜ (r .compared ≤ self .compared + 224) × (r .differences ≤ self .differences + 224) ⌝ }
     {
         let shown = self.differences < SHOWN;
         self.differences = self.differences + rows::wrong_rows(town, shown);
@@ -100,8 +101,7 @@ impl Counts {
 fn run() -> Counts {
     let mut seed: u64 = 1;
     let mut counts = Counts {
-        choices: 0,
-        uneven: 0,
+        sizes: Sizes::none(),
         compared: 0,
         differences: 0,
     };
@@ -115,9 +115,9 @@ fn run() -> Counts {
 // Runs all towns and prints the counts.
 fn main() {
     let counts = run();
+    let sizes = counts.sizes;
     say::line(b"towns ", TOWNS);
-    say::line(b"numbers of sites to choose ", counts.choices);
-    say::line(b"of these, not dividing the streets ", counts.uneven);
+    sizes.lines();
     say::line(b"answers compared ", counts.compared);
     say::line(b"differences ", counts.differences);
 }

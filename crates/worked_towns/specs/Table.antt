@@ -1,4 +1,5 @@
--- Document 01's worked surveys P1 to P8, and lines that would notice a wrong definition where those eight do not.
+-- Document 01's worked surveys P1 to P8, with P7 as document 02's request 2026-01 has it, and lines that would notice a wrong definition where
+-- those eight do not.
 -- Assumes nothing.
 use Prim.Native.Nat.{ℕ}
 use mathlib.Core.List.{List, [], _∷_, _++_}
@@ -56,9 +57,30 @@ alike = survey 4 2 2 (1 ∷ 1 ∷ []) (1 ∷ 2 ∷ 1 ∷ 2 ∷ 1 ∷ 2 ∷ 1 ∷
 abbrev pub short : SurveyInput
 short = survey 2 2 1 (5 ∷ 5 ∷ []) (1 ∷ 2 ∷ 0 ∷ 0 ∷ [])
 
+-- three streets over two sites: site 2 is chosen first and has two of them
+abbrev pub three : SurveyInput
+three = survey 3 2 2 (2 ∷ 1 ∷ []) (2 ∷ 1 ∷ 2 ∷ 1 ∷ 2 ∷ 0 ∷ [])
+
+-- five streets over three sites: the two that are chosen first, 2 and 3, have two each
+abbrev pub five : SurveyInput
+five = survey 5 3 3 (3 ∷ 1 ∷ 0 ∷ []) (2 ∷ 1 ∷ 3 ∷ 3 ∷ 0 ∷ 0 ∷ 2 ∷ 1 ∷ 0 ∷ 3 ∷ 2 ∷ 0 ∷ 2 ∷ 0 ∷ 0 ∷ [])
+
+-- ten streets over three sites: site 2 is chosen first and has four of them
+abbrev pub ten : SurveyInput
+ten = survey 10 3 3 (3 ∷ 1 ∷ 0 ∷ [])
+    (2 ∷ 1 ∷ 3 ∷ 3 ∷ 0 ∷ 0 ∷ 2 ∷ 1 ∷ 0 ∷ 3 ∷ 2 ∷ 0 ∷ 2 ∷ 0 ∷ 0 ∷ 3 ∷ 1 ∷ 2 ∷ 2 ∷ 3 ∷ 1 ∷ 1 ∷ 2 ∷ 3 ∷ 3 ∷ 2 ∷ 0 ∷ 1 ∷ 3 ∷ 2 ∷ [])
+
+-- two streets, and for K 3 more sites than streets
+abbrev pub few : ℕ → SurveyInput
+few k = survey 2 3 k (2 ∷ 1 ∷ 0 ∷ []) (1 ∷ 2 ∷ 3 ∷ 1 ∷ 3 ∷ 2 ∷ [])
+
 -- P5 as a file
 abbrev pub p5file : List ℕ
 p5file = (84 ∷ 78 ∷ 2 ∷ 0 ∷ 2 ∷ 2 ∷ 1 ∷ 83 ∷ 67 ∷ 2 ∷ 0 ∷ 1 ∷ 0 ∷ 83 ∷ 84 ∷ 1 ∷ 0 ∷ 2 ∷ 1 ∷ 2 ∷ 83 ∷ 84 ∷ 2 ∷ 0 ∷ 1 ∷ 1 ∷ 69 ∷ 78 ∷ [])
+
+-- and more sites than streets as one
+abbrev pub fewfile : List ℕ
+fewfile = (84 ∷ 78 ∷ 2 ∷ 0 ∷ 3 ∷ 3 ∷ 1 ∷ 83 ∷ 67 ∷ 2 ∷ 0 ∷ 1 ∷ 0 ∷ 0 ∷ 0 ∷ 83 ∷ 84 ∷ 1 ∷ 0 ∷ 3 ∷ 1 ∷ 2 ∷ 3 ∷ 83 ∷ 84 ∷ 2 ∷ 0 ∷ 3 ∷ 1 ∷ 3 ∷ 2 ∷ 69 ∷ 78 ∷ [])
 
 -- P1 to P8
 abbrev pub worked : List Line
@@ -75,7 +97,7 @@ worked =
     Places 10 3 (4 ∷ 6 ∷ 10 ∷ []) ∷
     Floor p6 0 30 ∷
     FreePlan (p1 3) 0 8 (1 ∷ 1 ∷ 2 ∷ 3 ∷ []) (1 ∷ 2 ∷ 3 ∷ []) ∷
-    BalancedPlan (p1 3) 5 0 (blank 4) (blank 3) ∷
+    BalancedPlan (p1 3) 0 8 (1 ∷ 1 ∷ 2 ∷ 3 ∷ []) (1 ∷ 2 ∷ 3 ∷ []) ∷
     FreePlan p8 0 0 (0 ∷ []) (1 ∷ []) ∷
     BalancedPlan p8 0 0 (1 ∷ []) (1 ∷ []) ∷
     []
@@ -93,9 +115,48 @@ plans =
     BalancedPlan tied 0 0 (1 ∷ 2 ∷ []) (1 ∷ 2 ∷ []) ∷
     BalancedDivision alike (2 ∷ 1 ∷ []) 0 4 (1 ∷ 1 ∷ 2 ∷ 2 ∷ []) ∷
     Floor short 0 0 ∷
-    Floor (p1 3) 5 0 ∷
     FreeDivision p3 (1 ∷ 2 ∷ []) 0 6 (1 ∷ 1 ∷ 1 ∷ 2 ∷ 2 ∷ 2 ∷ []) ∷
     FreeDivision p3 (3 ∷ []) 0 4 (0 ∷ 3 ∷ 3 ∷ 3 ∷ 3 ∷ 0 ∷ []) ∷
+    []
+
+-- uneven shares: the first rounds, and the first entries of a list, have one street more, and the floor counts it
+abbrev pub uneven : List Line
+uneven =
+    Rounds (p1 3) 8 (1 ∷ 1 ∷ 2 ∷ 3 ∷ []) ∷
+    Floor (p1 3) 0 5 ∷
+    BalancedDivision (p1 2) (1 ∷ 2 ∷ 3 ∷ []) 0 8 (1 ∷ 1 ∷ 2 ∷ 3 ∷ []) ∷
+    BalancedDivision (p1 2) (2 ∷ 1 ∷ 3 ∷ []) 0 7 (2 ∷ 1 ∷ 2 ∷ 3 ∷ []) ∷
+    BalancedDivision (p1 2) (3 ∷ 2 ∷ 1 ∷ []) 0 7 (1 ∷ 3 ∷ 2 ∷ 3 ∷ []) ∷
+    Rounds three 4 (2 ∷ 2 ∷ 1 ∷ []) ∷
+    BalancedPlan three 0 5 (1 ∷ 2 ∷ 2 ∷ []) (2 ∷ 1 ∷ []) ∷
+    BalancedDivision three (1 ∷ 2 ∷ []) 0 4 (1 ∷ 1 ∷ 2 ∷ []) ∷
+    Floor three 0 4 ∷
+    Rounds five 12 (2 ∷ 3 ∷ 2 ∷ 3 ∷ 1 ∷ []) ∷
+    BalancedPlan five 0 13 (1 ∷ 3 ∷ 2 ∷ 3 ∷ 2 ∷ []) (2 ∷ 3 ∷ 1 ∷ []) ∷
+    Floor five 0 6 ∷
+    Rounds ten 27 (2 ∷ 3 ∷ 2 ∷ 3 ∷ 2 ∷ 3 ∷ 2 ∷ 1 ∷ 1 ∷ 1 ∷ []) ∷
+    Floor ten 0 12 ∷
+    []
+
+-- as many sites as streets, and then one more: 5 in balanced calls and nowhere else, after 3 and before 6, 17 and 20; for a list its length decides
+abbrev pub scarce : List Line
+scarce =
+    BalancedPlan (few 2) 0 3 (1 ∷ 3 ∷ []) (1 ∷ 3 ∷ []) ∷
+    BalancedDivision (few 3) (2 ∷ 1 ∷ []) 0 3 (2 ∷ 1 ∷ []) ∷
+    BalancedPlan (few 3) 5 0 (blank 2) (blank 3) ∷
+    BalancedDivision (few 2) (1 ∷ 2 ∷ 3 ∷ []) 5 0 (blank 2) ∷
+    BalancedDivision (few 2) (4 ∷ 4 ∷ 4 ∷ []) 5 0 (blank 2) ∷
+    Floor (few 3) 5 0 ∷
+    BalancedHand (few 3) (1 ∷ 1 ∷ []) 4 5 ∷
+    BalancedHand (few 3) [] 0 5 ∷
+    BalancedPlan (few 4) 3 0 (blank 2) (blank 4) ∷
+    Check (few 3) 0 ∷
+    ListTotal (few 3) (1 ∷ 2 ∷ 3 ∷ []) 0 4 ∷
+    FreePlan (few 3) 0 4 (1 ∷ 1 ∷ []) (1 ∷ 2 ∷ 3 ∷ []) ∷
+    FreeDivision (few 3) (1 ∷ 2 ∷ 3 ∷ []) 0 4 (1 ∷ 1 ∷ []) ∷
+    FreeHand (few 3) (1 ∷ 1 ∷ []) 4 0 ∷
+    File (few 3) 1 fewfile ∷
+    Write (few 3) 1 33 0 ∷
     []
 
 -- one row, one site: a site that is not ranked scores 0, whatever the last score is
@@ -146,7 +207,6 @@ lists =
     ListTotal (p1 2) (0 ∷ []) 17 0 ∷
     ListTotal (p1 2) (2 ∷ 2 ∷ []) 20 0 ∷
     FreeDivision (p1 2) (2 ∷ 2 ∷ []) 20 0 (blank 4) ∷
-    BalancedDivision (p1 2) (1 ∷ 2 ∷ 3 ∷ []) 5 0 (blank 4) ∷
     BalancedDivision (p1 2) (3 ∷ 3 ∷ []) 20 0 (blank 4) ∷
     []
 
@@ -163,7 +223,21 @@ hand =
     BalancedHand (p1 2) (1 ∷ 2 ∷ 1 ∷ 2 ∷ []) 6 19 ∷
     BalancedHand (p1 2) (1 ∷ 1 ∷ 1 ∷ 2 ∷ []) 6 18 ∷
     BalancedHand (p1 2) (1 ∷ 1 ∷ 2 ∷ 0 ∷ []) 6 17 ∷
-    BalancedHand (p1 3) (1 ∷ 1 ∷ 2 ∷ 0 ∷ []) 6 5 ∷
+    BalancedHand (p1 3) (1 ∷ 1 ∷ 2 ∷ 0 ∷ []) 6 17 ∷
+    []
+
+-- hand plans in uneven shares: which site has the larger share is free, how many sites have either share is not
+abbrev pub unevenHand : List Line
+unevenHand =
+    BalancedHand (p1 3) (1 ∷ 1 ∷ 2 ∷ 3 ∷ []) 8 0 ∷
+    BalancedHand (p1 3) (2 ∷ 2 ∷ 1 ∷ 3 ∷ []) 4 0 ∷
+    BalancedHand (p1 3) (1 ∷ 1 ∷ 2 ∷ 3 ∷ []) 7 19 ∷
+    BalancedHand (p1 3) (1 ∷ 1 ∷ 2 ∷ 2 ∷ []) 7 18 ∷
+    BalancedHand five (1 ∷ 3 ∷ 2 ∷ 3 ∷ 2 ∷ []) 13 0 ∷
+    BalancedHand five (2 ∷ 1 ∷ 1 ∷ 1 ∷ 1 ∷ []) 4 18 ∷
+    BalancedHand ten (1 ∷ 3 ∷ 2 ∷ 3 ∷ 2 ∷ 1 ∷ 2 ∷ 1 ∷ 3 ∷ 1 ∷ []) 26 0 ∷
+    BalancedHand ten (2 ∷ 3 ∷ 2 ∷ 3 ∷ 2 ∷ 3 ∷ 2 ∷ 1 ∷ 3 ∷ 1 ∷ []) 30 18 ∷
+    BalancedHand ten (2 ∷ 3 ∷ 2 ∷ 3 ∷ 2 ∷ 3 ∷ 2 ∷ 1 ∷ 3 ∷ 3 ∷ []) 28 18 ∷
     []
 
 -- P5 as a file, cut and damaged
@@ -208,4 +282,4 @@ files =
 
 -- the whole table
 abbrev pub table : List Line
-table = worked ++ plans ++ scored ++ refused ++ lists ++ hand ++ files
+table = worked ++ plans ++ uneven ++ scarce ++ scored ++ refused ++ lists ++ hand ++ unevenHand ++ files

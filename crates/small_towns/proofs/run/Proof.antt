@@ -1,11 +1,12 @@
 -- `small_towns::run` meets its contract. Assumes nothing.
-use borrow.Author.Needs.{needs}
 use Prim.Native.Nat.{_≤_, _*_, _-_}
+use Rattle.small_towns.specs.Counted.{Counted}
+use borrow.Author.Needs.{needs}
 use Rattle.small_towns.proofs.run.Statement.{statement}
 use Rattle.small_towns.proofs.run.Tie as tie
 
 abbrev Inv-loop : tie.InvT-loop
-Inv-loop seed₀ counts₀ i₀ seed counts i = (i ≤ 3000) × (counts .choices ≤ 5 * i) × (counts .uneven ≤ counts .choices) × (counts .compared ≤ 184 * i) × (counts .differences ≤ 184 * i)
+Inv-loop seed₀ counts₀ i₀ seed counts i = (i ≤ 3000) × Counted (counts .sizes) × (counts .sizes .choices ≤ 5 * i) × (counts .compared ≤ 224 * i) × (counts .differences ≤ 224 * i)
 
 abbrev μ-loop : tie.MeasureT-loop
 μ-loop seed₀ counts₀ i₀ seed counts i = 3000 - i
@@ -16,6 +17,7 @@ run-spec =
     (tie.spec
     Inv-loop
     μ-loop
+    (λ c κs. search needs)
     (λ c. search needs)
     (λ c κs. search needs)
     (λ c κs. search needs)

@@ -1,15 +1,15 @@
 -- `plain_search::floors::floor` meets its contract. Assumes nothing.
-use borrow.Author.Needs.{needs}
 use Prim.Native.Nat.{_≤_, _*_, _-_}
 use mathlib.Core.Path.{_≡_}
+use borrow.Author.Needs.{needs}
 use Rattle.plain_search.proofs.floors.floor.Statement.{statement}
 use Rattle.plain_search.proofs.floors.floor.Tie as tie
 
 abbrev Inv-loop : tie.InvT-loop
-Inv-loop town t share sum₀ i₀ i-end sum i = (i ≤ i-end) × (i-end ≡ town .k) × (sum ≤ 65535 * i)
+Inv-loop town t sum₀ i₀ i-end sum i = (i ≤ i-end) × (i-end ≡ town .k) × (sum ≤ 600000 * i)
 
 abbrev μ-loop : tie.MeasureT-loop
-μ-loop town t share sum₀ i₀ i-end sum i = i-end - i
+μ-loop town t sum₀ i₀ i-end sum i = i-end - i
 
 pub floor-spec : {M : Type 1} → statement M
 floor-spec =
@@ -19,14 +19,9 @@ floor-spec =
     μ-loop
     (λ c κs. search needs)
     (λ c. search needs)
-    (λ c. search needs)
-    (λ c κs. search needs)
     (λ c κs. search needs)
     (λ c. search needs)
     (λ c. search needs)
     (λ c. search needs)
-    (λ c. search needs)
-    (λ c. search needs)
-    (λ c κs. search needs)
     (λ c. search needs)
     (λ c. search needs))

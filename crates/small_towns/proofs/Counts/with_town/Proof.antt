@@ -1,12 +1,15 @@
 -- `small_towns::Counts::with_town` meets its contract. Assumes nothing.
-use borrow.Author.Needs.{needs}
 use Prim.Native.Nat.{_≤_, _+_, _*_, _-_}
 use mathlib.Core.Path.{_≡_}
+use Rattle.small_towns.specs.Counted.{Counted}
+use borrow.Author.Needs.{needs}
 use Rattle.small_towns.proofs.Counts.with_town.Statement.{statement}
 use Rattle.small_towns.proofs.Counts.with_town.Tie as tie
 
 abbrev Inv-loop : tie.InvT-loop
-Inv-loop self₀ seed₀ town shown sites i₀ i-end self seed i = (i ≤ i-end) × (i-end ≡ town .m) × (self .choices ≡ self₀ .choices + i) × (self .uneven ≤ self .choices) × (self .compared ≤ self₀ .compared + 24 * i) × (self .differences ≤ self₀ .differences + 24 * i)
+Inv-loop self₀ seed₀ town shown sites i₀ i-end self seed i =
+    (i ≤ i-end) × (i-end ≡ town .m) × Counted (self .sizes) × (self .sizes .choices ≡ self₀ .sizes .choices + i)
+    × (self .compared ≤ self₀ .compared + 32 * i) × (self .differences ≤ self₀ .differences + 32 * i)
 
 abbrev μ-loop : tie.MeasureT-loop
 μ-loop self₀ seed₀ town shown sites i₀ i-end self seed i = i-end - i

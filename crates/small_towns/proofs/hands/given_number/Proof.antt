@@ -1,10 +1,10 @@
--- `small_towns::hands::wrong_test` meets its contract. Assumes nothing.
-use borrow.Author.Needs.{needs}
+-- `small_towns::hands::given_number` meets its contract. Assumes nothing.
 use lib.Seq.{length-take-le}
 use mathlib.Core.Path.{sym}
 use native.Mathlib.Omega.{arith}
-use Rattle.small_towns.proofs.hands.wrong_test.Statement.{statement}
-use Rattle.small_towns.proofs.hands.wrong_test.Tie as tie
+use borrow.Author.Needs.{needs}
+use Rattle.small_towns.proofs.hands.given_number.Statement.{statement}
+use Rattle.small_towns.proofs.hands.given_number.Tie as tie
 
 slice-aggregate-tested : tie.Need-slice-aggregate-tested
 slice-aggregate-tested c = sym (length-take-le _ _ (omega arith))
@@ -15,8 +15,8 @@ slice-aggregate-tested-2 c = sym (length-take-le _ _ (omega arith))
 slice-aggregate-tested-3 : tie.Need-slice-aggregate-tested-3
 slice-aggregate-tested-3 c = sym (length-take-le _ _ (omega arith))
 
-pub wrong-test-spec : {M : Type 1} → statement M
-wrong-test-spec =
+pub given-number-spec : {M : Type 1} → statement M
+given-number-spec =
     tie.close
     (tie.spec
     (λ c. search needs)
@@ -25,7 +25,5 @@ wrong-test-spec =
     slice-aggregate-tested-2
     (λ c. search needs)
     slice-aggregate-tested-3
-    (λ c κs. search needs)
-    (λ c κs. search needs)
     (λ c κs. search needs)
     (λ c. search needs))
