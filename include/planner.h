@@ -13,6 +13,10 @@
  *            of zeros is an empty list. A site that a street has not ranked scores 0 for it.
  *   A site is one byte. Site 0 is no site: a street that goes to site 0 is unserved.
  *
+ * SHARES. A balanced plan or division shares the n streets out over k sites, k at most n: n / k streets (rounded down) to each
+ * site, and one more to each of the first n % k. In a plan these are the sites chosen first. Over a list of sites they are the
+ * list's first entries, so that the order of the list counts.
+ *
  * PARAMETERS stand in one order everywhere: sizes (n, m, k, kind), scores, rows, what the call is about, what it fills. Only the
  * reader, which fills all of them, has its file in front. Any numbers may be passed: what is wrong with them is refused.
  *
@@ -42,7 +46,7 @@ extern "C" {
 #endif
 
 /* The year and the number of the last request that is in, 00 for the base. planner_version() gives that of the library linked. */
-#define PLANNER_VERSION 202600
+#define PLANNER_VERSION 202601
 
 /* The greatest sizes and score. */
 #define PLANNER_MAX_STREETS 400
@@ -90,7 +94,7 @@ extern "C" {
     REFUSAL(2, SITES, "number of sites outside 1 to 64: list fewer sites") \
     REFUSAL(3, CHOSEN, "K, or the length of a list of sites, outside 1 to the number of sites: choose another K") \
     REFUSAL(4, KIND, "kind of plan not 0 or 1: 0 is free, 1 balanced") \
-    REFUSAL(5, SHARE, "K does not divide the number of streets (balanced plan, division, hand plan and floor): choose a K that divides it, or a free plan") \
+    REFUSAL(5, SHARE, "K, or a list's length, above the number of streets (balanced plan, division, hand plan, floor): choose a smaller K, or a free plan") \
     /* the calling program */ \
     REFUSAL(6, BUFFER_LENGTH, "a lent buffer of other than its exact length: lend the length that the call names") \
     REFUSAL(7, FILE_BUFFER_SHORT, "a file buffer shorter than the file: lend 27,739 bytes, the longest file") \
@@ -108,7 +112,7 @@ extern "C" {
     /* the sender of a hand plan or list */ \
     REFUSAL(17, SITE_OUTSIDE, "a site outside 1 to the number of sites (a free hand plan may have 0): correct the site") \
     /* the sender of a hand plan */ \
-    REFUSAL(18, SITES_USED, "a free hand plan with more than K sites; a balanced one whose K sites don't have equal shares: move streets") \
+    REFUSAL(18, SITES_USED, "a free hand plan of more than K sites; a balanced one of other than K, or with shares over one street apart: move streets") \
     REFUSAL(19, CLAIMED_TOTAL, "a claimed total that is not the plan's: add it up again") \
     /* the sender of a list */ \
     REFUSAL(20, LISTED_TWICE, "a site listed twice: strike one of the two")
@@ -218,10 +222,11 @@ uint64_t planner_free_division(size_t n, size_t m,
                                uint8_t *PLANNER_RESTRICT division, size_t division_len) PLANNER_MUST_USE;
 
 /*
- * The best balanced division over a list of sites: each site gets the same number of streets, and no such division totals more.
- * Of several best ones it is the one that gives street 1 the lowest site number, then street 2, and so on.
+ * The best balanced division over a list of sites: each site gets its share, the first n % sites_len entries one street more than
+ * the others, and no division in these shares totals more. Of several best ones it is the one that gives street 1 the lowest site
+ * number, then street 2, and so on.
  *   scores    m numbers, read      rows  n * m bytes, read
- *   sites     the list, 1 to m bytes, each site once, read
+ *   sites     the list, 1 to m bytes and at most n, each site once, read
  *   division  n bytes, written: the site of each street
  * Answer: the division's total, the sum over the streets of the score that each gives its site.
  * Refuses with 1, 2, 3, 5, 6, 8, 9, 10, 11, 17 or 20.
@@ -248,8 +253,8 @@ uint64_t planner_free_plan(size_t n, size_t m, size_t k,
                            uint8_t *PLANNER_RESTRICT chosen, size_t chosen_len) PLANNER_MUST_USE;
 
 /*
- * The balanced plan (Monroe's rule, greedy): k sites chosen in rounds, n / k streets for each, and the best division over
- * them.
+ * The balanced plan (Monroe's rule, greedy): k sites chosen in rounds, each of which deals its site n / k streets, the first n % k
+ * rounds one more; then the best division over these sites in these shares, as planner_balanced_division makes it.
  *   scores    m numbers, read      rows  n * m bytes, read
  *   division  n bytes, written: the site of each street
  *   chosen    k bytes, written: the sites in order of choice
@@ -284,7 +289,8 @@ uint64_t planner_free_hand(size_t n, size_t m, size_t k,
                            uint32_t claimed) PLANNER_MUST_USE;
 
 /*
- * Tests a hand-made balanced plan: exactly k sites have n / k streets each, and these give them the claimed total.
+ * Tests a hand-made balanced plan: exactly n % k sites, whichever they are, have n / k + 1 streets, exactly k - n % k have n / k,
+ * and the streets give them the claimed total.
  *   scores    m numbers, read      rows  n * m bytes, read
  *   division  n bytes, read: the site of each street
  *   claimed   the total that is claimed for the plan

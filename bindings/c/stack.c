@@ -125,13 +125,13 @@ static size_t larger(size_t a, size_t b) {
     return a > b ? a : b;
 }
 
-/* The depth of a call that is accepted, over all towns; its first town it also plans on a thread. */
+/* The depth of a call that is accepted, over all towns that it accepts; its first town it also plans on a thread. */
 static size_t test_accepted(const struct call *call) {
     size_t most = 0;
     for (size_t i = 0; i < TOWNS; i++) {
         const struct town *town = &towns[i];
         char on[80];
-        if ((call->refuses & NUMBER(PLANNER_REFUSED_SHARE)) && town->n % town->k != 0) {
+        if ((call->refuses & NUMBER(PLANNER_REFUSED_SHARE)) && town->n < town->k) {
             continue;
         }
         make_town(town->n, town->m, town->k, town->lists);

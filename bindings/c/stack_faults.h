@@ -41,8 +41,8 @@ static void unknown_kind(void) {
     kind = 2, file[KIND_AT] = 2;
 }
 
-static void uneven_shares(void) {
-    k = sites_len = chosen_len = 51;
+static void streets_too_few(void) {
+    n = division_len = 49, rows_len = n * m;
 }
 
 static void scores_short(void) {
@@ -149,7 +149,7 @@ static const struct fault {
     {"K 0", 3, NUMBER(3), none_to_choose},
     {"K 65", 3, NUMBER(3), too_many_to_choose},
     {"kind 2", 4, NUMBER(4), unknown_kind},
-    {"K 51", 5, NUMBER(5), uneven_shares},
+    {"49 streets for 50 sites", 5, NUMBER(5), streets_too_few},
     {"one score less", 6, NUMBER(6), scores_short},
     {"one byte of rows less", 6, NUMBER(6), rows_short},
     {"a division of 401", 6, LENT_DIVISION, division_long},

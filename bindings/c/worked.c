@@ -1,4 +1,4 @@
-/* Every function of include/planner.h from C, on the worked survey P1; prints what differs and ends with 1, or ends with 0. */
+/* Every function of include/planner.h from C, on the worked surveys P1 and P7; prints what differs and ends with 1, or ends with 0. */
 #include <stdio.h>
 #include <string.h>
 
@@ -34,6 +34,44 @@ static void plans(void) {
     expect(planner_free_division(4, 3, scores, 3, rows, 12, sites, 2, division, 4) == 7 && !memcmp(division, plan, 4), "the free division");
     memset(division, 0, 4);
     expect(planner_balanced_division(4, 3, scores, 3, rows, 12, sites, 2, division, 4) == 7 && !memcmp(division, plan, 4), "the balanced division");
+}
+
+/* The best balanced division over a list of all three sites, and its total. */
+static void expect_division(const uint8_t list[3], const uint8_t wanted[4], uint64_t total, const char *what) {
+    uint8_t division[4] = {0};
+    uint64_t answer = planner_balanced_division(4, 3, scores, 3, rows, 12, list, 3, division, 4);
+    expect(answer == total && !memcmp(division, wanted, 4), what);
+}
+
+/* P7: the same survey with K 3. The site chosen first, and the first of a list, has two streets and the others one. */
+static void uneven_shares(void) {
+    static const uint8_t all[3] = {1, 2, 3}, two_first[3] = {2, 1, 3}, three_first[3] = {3, 1, 2};
+    static const uint8_t one_larger[4] = {1, 1, 2, 3}, two_larger[4] = {2, 1, 2, 3}, three_larger[4] = {1, 3, 2, 3};
+    uint8_t division[4] = {0}, chosen[3] = {0};
+    expect(planner_balanced_plan(4, 3, 3, scores, 3, rows, 12, division, 4, chosen, 3) == 8, "P7's total, balanced");
+    expect(!memcmp(division, one_larger, 4) && !memcmp(chosen, all, 3), "P7's balanced plan");
+    expect_division(all, one_larger, 8, "the balanced division with site 1 first");
+    expect_division(two_first, two_larger, 7, "the balanced division with site 2 first");
+    expect_division(three_first, three_larger, 7, "the balanced division with site 3 first");
+    expect(planner_floor(4, 3, 3, scores, 3, rows, 12) == 5, "P7's floor");
+    expect(planner_balanced_hand(4, 3, 3, scores, 3, rows, 12, one_larger, 4, 8) == 8, "P7's plan as a hand plan");
+    expect(planner_balanced_hand(4, 3, 3, scores, 3, rows, 12, three_larger, 4, 7) == 7, "a hand plan with two streets for site 3");
+    expect_refusal(planner_balanced_hand(4, 3, 3, scores, 3, rows, 12, plan, 4, 7), 18, "a hand plan with two streets for two of three sites");
+}
+
+/* The first two streets of the survey, and three sites: the balanced calls and the floor refuse, and no other. */
+static void more_sites_than_streets(void) {
+    static const uint8_t all[3] = {1, 2, 3}, hand[2] = {1, 3};
+    uint8_t division[2] = {8, 8}, chosen[3] = {8, 8, 8}, file[33];
+    expect_refusal(planner_balanced_plan(2, 3, 3, scores, 3, rows, 6, division, 2, chosen, 3), 5, "a balanced plan of two streets with K 3");
+    expect_refusal(planner_balanced_division(2, 3, scores, 3, rows, 6, all, 3, division, 2), 5, "two streets divided over three sites");
+    expect(division[0] == 8 && division[1] == 8 && chosen[0] == 8 && chosen[1] == 8 && chosen[2] == 8, "the buffers after 5");
+    expect_refusal(planner_floor(2, 3, 3, scores, 3, rows, 6), PLANNER_REFUSED_SHARE, "the floor of two streets with K 3");
+    expect_refusal(planner_balanced_hand(2, 3, 3, scores, 3, rows, 6, hand, 2, 3), 5, "a balanced hand plan of two streets with K 3");
+    expect(planner_check_survey(2, 3, 3, scores, 3, rows, 6) == 0, "the check of two streets with K 3");
+    expect(planner_free_plan(2, 3, 3, scores, 3, rows, 6, division, 2, chosen, 3) == 4, "the free plan of two streets with K 3");
+    expect(planner_free_hand(2, 3, 3, scores, 3, rows, 6, hand, 2, 3) == 3, "a free hand plan of two streets with K 3");
+    expect(planner_write_file(2, 3, 3, PLANNER_BALANCED, scores, 3, rows, 6, file, 33) == 33, "the writing of two streets with K 3");
 }
 
 static void numbers(void) {
@@ -130,15 +168,15 @@ static void texts(void) {
         expect(strcmp(planner_refusal_text(number), none), "a text for each number");
     }
     expect(!strcmp(planner_refusal_text(21), none) && !strcmp(planner_refusal_text(UINT32_MAX), none), "the text of other numbers");
-    uint64_t answer = planner_floor(4, 3, 3, scores, 3, rows, 12);
-    expect_refusal(answer, PLANNER_REFUSED_SHARE, "the floor with a K that does not divide");
-    answer = planner_floor(0, 3, 2, scores, 3, rows, 12);
+    uint64_t answer = planner_floor(0, 3, 2, scores, 3, rows, 12);
     expect(!strcmp(planner_refusal_text(planner_refusal(answer)),
                    "number of streets outside 1 to 400: plan a larger town in parts"), "the text of 1");
 }
 
 int main(void) {
     plans();
+    uneven_shares();
+    more_sites_than_streets();
     numbers();
     files();
     null_read();

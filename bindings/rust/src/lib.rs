@@ -3,7 +3,8 @@
 //! Each street of a town hands in a list of sites, best first. A place in a list has a score, and a street gives a site the score of the
 //! place at which it has ranked it, 0 where it has not. The planning office says how many sites, K, it can pay for. A plan is K sites, a
 //! site for each street, and the total of the scores that the streets give their sites. There are two kinds ([`Kind`]): in a *free* plan
-//! each street goes to the chosen site that it likes best, and in a *balanced* plan every site serves the same number of streets.
+//! each street goes to the chosen site that it likes best, and in a *balanced* plan every site serves the same number of streets, or the
+//! sites chosen first serve one more where the streets don't divide evenly.
 //!
 //! The crate calls a library that is proved: every call, on every input, gives exactly what its rule says, or one numbered [`Refusal`].
 //!
@@ -20,9 +21,14 @@
 //! assert_eq!(plan.total, 7);
 //! assert_eq!(plan.division.site(4), Some(2));
 //!
-//! // four streets cannot be shared out evenly over three sites
-//! let refusal = survey.plan(Kind::Balanced, 3).unwrap_err();
-//! assert_eq!(refusal, Refusal::Share);
+//! // over three sites, the one that is chosen first serves one street more than the others
+//! let plan = survey.plan(Kind::Balanced, 3)?;
+//! assert_eq!(plan.sites, [1, 2, 3]);
+//! assert_eq!(plan.division.as_bytes(), [1, 1, 2, 3]);
+//!
+//! // there are only three sites to choose from
+//! let refusal = survey.plan(Kind::Balanced, 4).unwrap_err();
+//! assert_eq!(refusal, Refusal::Chosen);
 //! println!("refused {}: {refusal}", refusal.number());
 //! # Ok(())
 //! # }
@@ -80,7 +86,7 @@ pub const ROWS_LENGTH: usize = MAX_STREETS * MAX_SITES;
 pub const FILE_LENGTH: usize = 27_739;
 
 /// The crate's version: the year, and in two digits the number of the last change request that is in.
-pub const VERSION: u32 = 202_600;
+pub const VERSION: u32 = 202_601;
 
 /// The version of the archive that is linked, which counts as [`VERSION`] does.
 ///

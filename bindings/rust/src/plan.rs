@@ -19,7 +19,8 @@ pub enum Kind {
     /// Each street goes to the chosen site that stands best in its list, and is unserved if it has ranked none of them
     /// (Chamberlin-Courant).
     Free = 0,
-    /// Each chosen site serves the same number of streets (Monroe).
+    /// Each of K sites serves n / K of the n streets, rounded down, and each of the first n % K sites one more (Monroe). The first are
+    /// those that a plan chooses first, or the first of those that are given. K is at most n.
     Balanced = 1,
 }
 

@@ -65,8 +65,8 @@ refusals! {
     2 Sites: "number of sites outside 1 to 64", "planning office", "list fewer sites";
     3 Chosen: "K, or the length of a list of sites, outside 1 to the number of sites", "planning office", "choose another K";
     4 Kind: "kind of plan not 0 or 1", "planning office", "0 is free, 1 balanced";
-    5 Share: "K does not divide the number of streets (balanced plan, division, hand plan and floor)", "planning office",
-        "choose a K that divides it, or a free plan";
+    5 Share: "K, or a list's length, above the number of streets (balanced plan, division, hand plan, floor)", "planning office",
+        "choose a smaller K, or a free plan";
     6 BufferLength: "a lent buffer of other than its exact length", "calling program", "lend the length that the call names";
     7 FileBufferShort: "a file buffer shorter than the file", "calling program", "lend 27,739 bytes, the longest file";
     8 Score: "a score above 1,000 or above the one before", "survey team", "put the scores in falling order";
@@ -80,7 +80,7 @@ refusals! {
     16 BytesAfterEnd: "bytes after EN", "file sender", "end the file there";
     17 SiteOutside: "a site outside 1 to the number of sites (a free hand plan may have 0)", "sender of a hand plan or list",
         "correct the site";
-    18 SitesUsed: "a free hand plan with more than K sites; a balanced one whose K sites don't have equal shares",
+    18 SitesUsed: "a free hand plan of more than K sites; a balanced one of other than K, or with shares over one street apart",
         "sender of a hand plan", "move streets";
     19 ClaimedTotal: "a claimed total that is not the plan's", "sender of a hand plan", "add it up again";
     20 ListedTwice: "a site listed twice", "sender of a list", "strike one of the two";

@@ -122,9 +122,9 @@ pub fn free_division(n: usize, m: usize, scores: &[u16], rows: &[u8], sites: &[u
     self::division(Kind::Free, [n, m], scores, rows, sites, division)
 }
 
-/// The best balanced division over a list of 1 to `m` sites, into the `n` bytes of `division`: each site gets the same number of streets,
-/// and no such division totals more. Of several best ones it is the one that gives street 1 the lowest site, then street 2, and so on.
-/// Gives the division's total.
+/// The best balanced division over a list of 1 to `m` sites, at most `n`, into the `n` bytes of `division`: each of k sites gets `n / k`
+/// streets, the first `n % k` entries of the list one more, and no division in these shares totals more. Of several best ones it is the
+/// one that gives street 1 the lowest site, then street 2, and so on. Gives the division's total.
 ///
 /// # Errors
 /// As [`list_total`], where 5 `Share` is tried after 3, and 6 `BufferLength` for the division too.
@@ -182,7 +182,8 @@ pub fn free_plan(
     plan(Kind::Free, [n, m, k], scores, rows, division, chosen)
 }
 
-/// The balanced plan, with `n / k` streets to each of the `k` sites; buffers as in [`free_plan`]. Gives the total.
+/// The balanced plan, with `n / k` streets to each of the `k` sites and one more to each of the first `n % k` in order of choice; buffers
+/// as in [`free_plan`]. Gives the total.
 ///
 /// # Errors
 /// As [`check_survey`], where 5 `Share` is tried after 3, and 6 `BufferLength` for the division and the chosen sites too.
@@ -234,8 +235,8 @@ pub fn free_hand(n: usize, m: usize, k: usize, scores: &[u16], rows: &[u8], divi
     hand_plan(Kind::Free, [n, m, k], scores, rows, division, claimed)
 }
 
-/// Tests a hand-made balanced plan: `k` sites with `n / k` streets each, and the total that is claimed for it. Gives the plan's total,
-/// which the claimed one then is.
+/// Tests a hand-made balanced plan: `n % k` sites, whichever they are, with `n / k + 1` streets each and `k - n % k` with `n / k`, and the
+/// total that is claimed for it. Gives the plan's total, which the claimed one then is.
 ///
 /// # Errors
 /// As [`free_hand`], where 5 `Share` is tried after 3.

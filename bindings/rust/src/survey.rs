@@ -131,11 +131,13 @@ impl Survey {
     /// The plan with K sites.
     ///
     /// A free plan is made in K rounds, each of which adds the site that raises the total most. With total S, and T the total of any other
-    /// K sites, K^K (T - S) is at most (K - 1)^K T. A balanced plan is made in K rounds too; no other division of the streets over its
-    /// sites in equal shares totals more, and the total is at least the [`floor`](Survey::floor).
+    /// K sites, K^K (T - S) is at most (K - 1)^K T. A balanced plan is made in K rounds too, each of which deals its site a share of the
+    /// streets, one street more in the first rounds where they don't divide evenly ([`Kind::Balanced`]); no other division over its sites
+    /// in their shares totals more, and the total is at least the [`floor`](Survey::floor).
     ///
     /// # Errors
-    /// In order of trial: 3 [`Chosen`](Refusal::Chosen), and 5 [`Share`](Refusal::Share) for a balanced plan.
+    /// In order of trial: 3 [`Chosen`](Refusal::Chosen), and for a balanced plan 5 [`Share`](Refusal::Share) where K is above the number of
+    /// streets.
     pub fn plan(&self, kind: Kind, k: usize) -> Result<Plan, Refusal> {
         let mut division = vec![0; self.streets()];
         // a K above the number of sites is refused before the lengths are looked at
@@ -148,8 +150,9 @@ impl Survey {
     /// The plan over sites that are given.
     ///
     /// In a free one each street goes to the given site that stands best in its list, and is unserved if it has ranked none of them. In a
-    /// balanced one each site gets the same number of streets, and no such division totals more; of several best ones it is the one that
-    /// gives street 1 the lowest site, then street 2, and so on.
+    /// balanced one every site gets the same number of streets, or the first of the given sites get one more where the streets don't divide
+    /// evenly ([`Kind::Balanced`]), so that the order of `sites` counts. No division in these shares totals more; of several best ones it
+    /// is the one that gives street 1 the lowest site, then street 2, and so on.
     ///
     /// ```
     /// use planner::{Kind, Survey};
@@ -159,13 +162,17 @@ impl Survey {
     /// let plan = survey.divide(Kind::Balanced, &[3, 1])?;
     /// assert_eq!((plan.division.as_bytes(), plan.total), (&[1, 3, 1, 3][..], 7));
     /// assert_eq!(plan.sites, [3, 1]);
+    ///
+    /// // of three sites the first that is given gets two of the four streets
+    /// let plan = survey.divide(Kind::Balanced, &[2, 1, 3])?;
+    /// assert_eq!((plan.division.as_bytes(), plan.total), (&[2, 1, 2, 3][..], 6));
     /// # Ok(())
     /// # }
     /// ```
     ///
     /// # Errors
-    /// In order of trial: 3 [`Chosen`](Refusal::Chosen) where the list is empty or too long, 5 [`Share`](Refusal::Share) for a balanced
-    /// plan, 17 [`SiteOutside`](Refusal::SiteOutside), 20 [`ListedTwice`](Refusal::ListedTwice).
+    /// In order of trial: 3 [`Chosen`](Refusal::Chosen) where the list is empty or too long, 5 [`Share`](Refusal::Share) where a balanced
+    /// plan has more sites than streets, 17 [`SiteOutside`](Refusal::SiteOutside), 20 [`ListedTwice`](Refusal::ListedTwice).
     pub fn divide(&self, kind: Kind, sites: &[u8]) -> Result<Plan, Refusal> {
         let mut division = vec![0; self.streets()];
         let sizes = [self.streets(), self.sites()];
@@ -176,18 +183,18 @@ impl Survey {
     /// The floor: a total that the balanced plan with K sites reaches in any case.
     ///
     /// # Errors
-    /// In order of trial: 3 [`Chosen`](Refusal::Chosen), 5 [`Share`](Refusal::Share).
+    /// In order of trial: 3 [`Chosen`](Refusal::Chosen), 5 [`Share`](Refusal::Share) where K is above the number of streets.
     pub fn floor(&self, k: usize) -> Result<u32, Refusal> {
         slices::floor(self.streets(), self.sites(), k, &self.scores, &self.rows)
     }
 
     /// Tests a plan that was made by hand and gives its total, which the claimed one then is. A free plan has to use at most K sites, and
-    /// a balanced one exactly K sites with the same number of streets each.
+    /// a balanced one exactly K sites whose numbers of streets differ by one at most, whichever of them have the one more.
     ///
     /// # Errors
-    /// In order of trial: 3 [`Chosen`](Refusal::Chosen), 5 [`Share`](Refusal::Share) for a balanced plan, 6
-    /// [`BufferLength`](Refusal::BufferLength) where the division has not a site for each street, 17 [`SiteOutside`](Refusal::SiteOutside),
-    /// 18 [`SitesUsed`](Refusal::SitesUsed), 19 [`ClaimedTotal`](Refusal::ClaimedTotal).
+    /// In order of trial: 3 [`Chosen`](Refusal::Chosen), for a balanced plan 5 [`Share`](Refusal::Share) where K is above the number of
+    /// streets, 6 [`BufferLength`](Refusal::BufferLength) where the division has not a site for each street, 17
+    /// [`SiteOutside`](Refusal::SiteOutside), 18 [`SitesUsed`](Refusal::SitesUsed), 19 [`ClaimedTotal`](Refusal::ClaimedTotal).
     pub fn test(&self, plan: &HandPlan) -> Result<u32, Refusal> {
         let sizes = [self.streets(), self.sites(), plan.k()];
         slices::hand_plan(plan.kind(), sizes, &self.scores, &self.rows, plan.division().as_bytes(), plan.claimed())

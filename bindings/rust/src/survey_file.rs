@@ -73,7 +73,8 @@ impl SurveyFile {
     /// The plan that is wanted.
     ///
     /// # Errors
-    /// In order of trial: 3 [`Chosen`](Refusal::Chosen), and 5 [`Share`](Refusal::Share) for a balanced plan.
+    /// In order of trial: 3 [`Chosen`](Refusal::Chosen), and for a balanced plan 5 [`Share`](Refusal::Share) where K is above the number of
+    /// streets.
     pub fn plan(&self) -> Result<Plan, Refusal> {
         self.survey.plan(self.kind, self.k)
     }

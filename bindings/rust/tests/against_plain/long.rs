@@ -7,7 +7,7 @@ use crate::towns::{self, CULTURES};
 fn longest_towns() {
     let mut random = Random::new(3);
     for culture in CULTURES {
-        for k in [1, 4, 8, 20, 25, 40, 50] {
+        for k in [1, 4, 7, 8, 20, 25, 33, 40, 50, 63, 64] {
             let town = towns::town(&mut random, culture, 400, 64, k);
             let sites = towns::some_sites(&mut random, 64, k);
             compare::everything(&town, &sites, k % 2);

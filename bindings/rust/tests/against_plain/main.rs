@@ -1,4 +1,4 @@
-//! The library against an independent implementation (`plain`), written from document 01's text in the plainest way: totals by
+//! The library against an independent implementation (`plain`), written from the documents' text in the plainest way: totals by
 //! definition, rounds played as they are told, every division tried on small towns.
 mod compare;
 mod damaged;

@@ -77,14 +77,15 @@ pub fn town(random: &mut Random, culture: Culture, n: usize, m: usize, k: usize)
     Town { n, m, k, scores, rows }
 }
 
-/// A town of sizes up to the given ones; in three of four k divides n.
+/// A town of sizes up to the given ones: of four, one has a k that divides n, two have any n of at least k, and one has any n.
 pub fn any_town(random: &mut Random, most_streets: usize, most_sites: usize) -> Town {
     let m = random.within(1, most_sites);
     let k = random.within(1, m);
-    let mut n = random.within(1, most_streets);
-    if k <= most_streets && !random.once_in(4) {
-        n = k * random.within(1, most_streets / k);
-    }
+    let n = match random.below(4) {
+        0 if k <= most_streets => k * random.within(1, most_streets / k),
+        1 | 2 if k <= most_streets => random.within(k, most_streets),
+        _ => random.within(1, most_streets),
+    };
     let culture = CULTURES[random.below(CULTURES.len())];
     town(random, culture, n, m, k)
 }

@@ -1,4 +1,4 @@
-//! Document 01's worked surveys, and each refusal once.
+//! The documents' worked surveys, and each refusal once.
 use crate::plain::survey::Town;
 use planner::{slices, Kind, Refusal, ROWS_LENGTH, SCORES_LENGTH};
 
@@ -59,10 +59,71 @@ fn worked_surveys() {
     let all: Vec<u8> = (1..=10).collect();
     assert_eq!(floor(&town(10, 3, &[9, 8, 7, 6, 5, 4, 3, 2, 1, 0], &[&all[..]; 9])), Ok(30));
     assert_eq!(free(&p1(3)).map(|plan| (plan.0, plan.1)), Ok((8, vec![1, 2, 3])));
-    assert_eq!(balanced(&p1(3)), Err(Refusal::Share));
+    assert_eq!(balanced(&p1(3)), Ok((8, vec![1, 2, 3], vec![1, 1, 2, 3])));
     let p8 = town(1, 1, &[7], &[&[]]);
     assert_eq!(free(&p8), Ok((0, vec![1], vec![0])));
     assert_eq!(balanced(&p8), Ok((0, vec![1], vec![1])));
+}
+
+/// Ten streets, as in examples/ten-streets.survey.
+fn ten_streets(k: usize) -> Town {
+    let lists: [&[u8]; 10] =
+        [&[4, 2, 5, 3, 1], &[4, 2, 5, 3, 1], &[2, 1, 3], &[2, 1], &[2, 3, 1], &[4, 2, 5], &[5], &[2, 5, 1, 3, 4], &[1, 2, 3, 4, 5], &[4]];
+    town(5, k, &[4, 3, 2, 1, 0], &lists)
+}
+
+/// Total and site of each street of the best balanced division over a list.
+fn divided(t: &Town, sites: &[u8]) -> Result<(u32, Vec<u8>), Refusal> {
+    let mut division = vec![0; t.n];
+    let total = slices::balanced_division(t.n, t.m, &t.scores, &t.rows, sites, &mut division)?;
+    Ok((total, division))
+}
+
+#[test]
+fn uneven_shares() {
+    assert_eq!(floor(&p1(3)), Ok(5));
+    assert_eq!(balanced(&ten_streets(3)), Ok((34, vec![2, 4, 1], vec![2, 4, 1, 2, 2, 4, 1, 2, 1, 4])));
+    // the first of the list has four streets, the others three
+    assert_eq!(divided(&ten_streets(3), &[1, 2, 4]), Ok((33, vec![2, 4, 1, 1, 2, 4, 1, 2, 1, 4])));
+    assert_eq!(divided(&ten_streets(3), &[2, 4, 1]), Ok((34, vec![2, 4, 1, 2, 2, 4, 1, 2, 1, 4])));
+    assert_eq!(divided(&ten_streets(3), &[4, 1, 2]), Ok((35, vec![4, 4, 1, 2, 2, 4, 1, 2, 1, 4])));
+}
+
+#[test]
+fn as_many_sites_as_streets_or_more() {
+    let t = town(3, 3, &[2, 1, 0], &[&[1, 2, 3], &[1, 3, 2], &[2, 1]]);
+    assert_eq!(balanced(&t), Ok((5, vec![1, 2, 3], vec![1, 3, 2])));
+    assert_eq!(floor(&t), Ok(3));
+    let t = town(3, 3, &[2, 1, 0], &[&[1, 2, 3], &[1, 3, 2]]);
+    assert_eq!(balanced(&t), Err(Refusal::Share));
+    assert_eq!(floor(&t), Err(Refusal::Share));
+    assert_eq!(divided(&t, &[3, 2, 1]), Err(Refusal::Share));
+    assert_eq!(divided(&t, &[3, 2]), Ok((2, vec![2, 3])));
+    assert_eq!(slices::balanced_hand(2, 3, 3, &t.scores, &t.rows, &[1, 3], 3), Err(Refusal::Share));
+    // no other call has this refusal
+    assert_eq!(free(&t), Ok((4, vec![1, 2, 3], vec![1, 1])));
+    assert_eq!(slices::free_hand(2, 3, 3, &t.scores, &t.rows, &[1, 3], 3), Ok(3));
+    assert_eq!(slices::list_total(2, 3, &t.scores, &t.rows, &[3, 2, 1]), Ok(4));
+    assert_eq!(slices::write_file(2, 3, 3, Kind::Balanced.into(), &t.scores, &t.rows, &mut [0; 40]), Ok(33));
+}
+
+#[test]
+fn uneven_hand_plans() {
+    let t = p1(3);
+    let test = |division: &[u8], claimed| slices::balanced_hand(t.n, t.m, t.k, &t.scores, &t.rows, division, claimed);
+    // any of the three may have two streets
+    assert_eq!(test(&[1, 1, 2, 3], 8), Ok(8));
+    assert_eq!(test(&[1, 2, 2, 3], 6), Ok(6));
+    assert_eq!(test(&[1, 3, 2, 3], 7), Ok(7));
+    assert_eq!(test(&[1, 1, 2, 3], 7), Err(Refusal::ClaimedTotal));
+    // two sites with two streets each, and three streets at one
+    assert_eq!(test(&[1, 1, 2, 2], 7), Err(Refusal::SitesUsed));
+    assert_eq!(test(&[1, 1, 1, 2], 6), Err(Refusal::SitesUsed));
+    // of ten streets over three sites no site has five
+    let t = ten_streets(3);
+    let test = |division: &[u8]| slices::balanced_hand(t.n, t.m, t.k, &t.scores, &t.rows, division, 34);
+    assert_eq!(test(&[2, 4, 1, 2, 2, 4, 1, 2, 1, 4]), Ok(34));
+    assert_eq!(test(&[2, 4, 1, 2, 2, 4, 2, 2, 1, 4]), Err(Refusal::SitesUsed));
 }
 
 #[test]
@@ -101,7 +162,7 @@ fn each_refusal() {
         check(4, 65, 2, &t.scores, &t.rows),
         check(4, 3, 4, &t.scores, &t.rows),
         slices::write_file(4, 3, 2, 2, &t.scores, &t.rows, &mut bytes).unwrap_err(),
-        floor(&p1(3)).unwrap_err(),
+        floor(&town(3, 3, &[2, 1, 0], &[&[1, 2, 3], &[1, 3, 2]])).unwrap_err(),
         check(4, 3, 2, &t.scores, &t.rows[1..]),
         slices::write_file(4, 3, 2, 1, &t.scores, &t.rows, &mut bytes).unwrap_err(),
         check(4, 3, 2, &[2, 1, 2], &t.rows),

@@ -61,7 +61,8 @@ fn a_wrong_k() {
         assert_eq!(file.write(), Err(Refusal::Chosen));
         assert_eq!(file.plan(), Err(Refusal::Chosen));
     }
-    // a K that does not divide the streets may be written, and is refused where it is planned with
-    let file = SurveyFile::new(worked::p1(), Kind::Balanced, 3);
+    // a K above the number of streets may be written, and is refused where it is planned with
+    let survey = Survey::new(&[2, 1, 0], &[[1, 2, 3], [1, 3, 2]]).expect("a right survey");
+    let file = SurveyFile::new(survey, Kind::Balanced, 3);
     assert_eq!(SurveyFile::read(&file.write().expect("a right file")).and_then(|read| read.plan()), Err(Refusal::Share));
 }

@@ -25,9 +25,9 @@ fn several_threads() {
 #[test]
 fn a_thread_of_half_a_megabyte() {
     let survey = longest_survey();
-    let floor = survey.floor(40).expect("40 divides 400");
+    let floor = survey.floor(40).expect("40 sites for 400 streets");
     let planning = thread::Builder::new().stack_size(1 << 19).spawn(move || survey.plan(Kind::Balanced, 40));
-    let plan = planning.expect("a thread").join().expect("the thread ends").expect("40 divides 400");
+    let plan = planning.expect("a thread").join().expect("the thread ends").expect("40 sites for 400 streets");
     assert!(plan.total >= floor);
     assert_eq!(plan.sites.len(), 40);
 }

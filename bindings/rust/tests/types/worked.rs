@@ -21,6 +21,7 @@ fn plans() {
     assert_eq!(parts(p1().plan(Kind::Free, 2)), Ok((7, vec![1, 2], vec![1, 1, 2, 2])));
     assert_eq!(parts(p1().plan(Kind::Balanced, 2)), Ok((7, vec![1, 2], vec![1, 1, 2, 2])));
     assert_eq!(parts(p1().plan(Kind::Free, 3)).map(|parts| (parts.0, parts.1)), Ok((8, vec![1, 2, 3])));
+    assert_eq!(parts(p1().plan(Kind::Balanced, 3)), Ok((8, vec![1, 2, 3], vec![1, 1, 2, 3])));
     assert_eq!(parts(p3().plan(Kind::Free, 2)), Ok((5, vec![3, 1], vec![1, 1, 1, 3, 3, 0])));
     assert_eq!(parts(p3().plan(Kind::Balanced, 2)), Ok((6, vec![1, 2], vec![1, 1, 1, 2, 2, 2])));
     let p8 = Survey::new(&[7], &[[]]).expect("a right survey");
@@ -32,8 +33,24 @@ fn plans() {
 fn plans_over_given_sites() {
     assert_eq!(parts(p3().divide(Kind::Free, &[2, 1])), Ok((6, vec![2, 1], vec![1, 1, 1, 2, 2, 2])));
     assert_eq!(parts(p3().divide(Kind::Balanced, &[3, 1])), Ok((5, vec![3, 1], vec![1, 1, 1, 3, 3, 3])));
+    // the first that is given has one street more
+    assert_eq!(parts(p1().divide(Kind::Balanced, &[2, 1, 3])), Ok((7, vec![2, 1, 3], vec![2, 1, 2, 3])));
+    assert_eq!(parts(p1().divide(Kind::Balanced, &[3, 1, 2])), Ok((7, vec![3, 1, 2], vec![1, 3, 2, 3])));
     assert_eq!(p3().list_total(&[3]), Ok(4));
     assert_eq!(p1().floor(2), Ok(2));
+    assert_eq!(p1().floor(3), Ok(5));
+}
+
+#[test]
+fn more_sites_than_streets() {
+    let survey = Survey::new(&[2, 1, 0], &[[1, 2, 3], [1, 3, 2]]).expect("a right survey");
+    assert_eq!(survey.plan(Kind::Balanced, 3), Err(Refusal::Share));
+    assert_eq!(survey.divide(Kind::Balanced, &[1, 2, 3]), Err(Refusal::Share));
+    assert_eq!(survey.floor(3), Err(Refusal::Share));
+    assert_eq!(survey.test(&HandPlan::new(Kind::Balanced, 3, [1, 3], 3)), Err(Refusal::Share));
+    assert_eq!(survey.test(&HandPlan::new(Kind::Free, 3, [1, 3], 3)), Ok(3));
+    assert_eq!(parts(survey.plan(Kind::Free, 3)), Ok((4, vec![1, 2, 3], vec![1, 1])));
+    assert_eq!(parts(survey.divide(Kind::Free, &[3, 2, 1])), Ok((4, vec![3, 2, 1], vec![1, 1])));
 }
 
 #[test]
@@ -42,7 +59,9 @@ fn hand_plans() {
     assert_eq!(test(Kind::Free, 2, [1, 1, 2, 0], 6), Ok(6));
     assert_eq!(test(Kind::Balanced, 2, [1, 1, 2, 2], 7), Ok(7));
     assert_eq!(test(Kind::Free, 4, [1, 1, 2, 2], 7), Err(Refusal::Chosen));
-    assert_eq!(test(Kind::Balanced, 3, [1, 1, 2, 2], 7), Err(Refusal::Share));
+    assert_eq!(test(Kind::Balanced, 3, [1, 1, 2, 3], 8), Ok(8));
+    assert_eq!(test(Kind::Balanced, 3, [1, 3, 2, 3], 7), Ok(7));
+    assert_eq!(test(Kind::Balanced, 3, [1, 1, 2, 2], 7), Err(Refusal::SitesUsed));
     assert_eq!(test(Kind::Free, 2, [1, 1, 2, 4], 6), Err(Refusal::SiteOutside));
     assert_eq!(test(Kind::Free, 2, [1, 2, 3, 0], 6), Err(Refusal::SitesUsed));
     assert_eq!(test(Kind::Balanced, 2, [1, 1, 1, 2], 6), Err(Refusal::SitesUsed));

@@ -1,11 +1,12 @@
 //! The balanced plan's rounds, by sorting, and the floor.
+use super::shares::shares;
 use super::survey::{place, ranked, Town};
 
-/// The streets that a site would take: of the free ones the first n / K by place, unranked after all places, then by number.
-fn taken(town: &Town, free: &[usize], site: u8) -> Vec<usize> {
+/// The streets that a site would take: of the free ones as many as its share, by place, unranked after all places, then by number.
+fn taken(town: &Town, free: &[usize], site: u8, share: usize) -> Vec<usize> {
     let mut order = free.to_vec();
     order.sort_by_key(|&street| (place(town.row(street), site).unwrap_or(usize::MAX), street));
-    order.truncate(town.n / town.k);
+    order.truncate(share);
     order
 }
 
@@ -14,10 +15,10 @@ pub fn sites(town: &Town) -> Vec<u8> {
     let values = town.values();
     let mut free: Vec<usize> = (0..town.n).collect();
     let mut chosen: Vec<u8> = Vec::new();
-    for _ in 0..town.k {
+    for share in shares(town.n, town.k) {
         let mut best: Option<(u32, u8, Vec<usize>)> = None;
         for site in town.sites().filter(|site| !chosen.contains(site)) {
-            let streets = taken(town, &free, site);
+            let streets = taken(town, &free, site, share);
             let worth = streets.iter().map(|&street| values[street][site as usize]).sum();
             if best.as_ref().is_none_or(|(most, _, _)| worth > *most) {
                 best = Some((worth, site, streets));
@@ -30,14 +31,14 @@ pub fn sites(town: &Town) -> Vec<u8> {
     chosen
 }
 
-/// Round i adds n / K times the score at place p = i + (m - i) / (K - i), rounded up, if p is at most the length of the shortest list.
+/// Round i adds its share times the score at place p = i + (m - i) / (K - i), rounded up, if p is at most the length of the shortest list.
 pub fn floor(town: &Town) -> u32 {
     let shortest = (0..town.n).map(|street| ranked(town.row(street)).len()).min().expect("n is above 0");
     let mut sum = 0;
-    for i in 0..town.k {
+    for (i, share) in shares(town.n, town.k).into_iter().enumerate() {
         let p = i + (town.m - i).div_ceil(town.k - i);
         if p <= shortest {
-            sum += (town.n / town.k) as u32 * u32::from(town.scores[p - 1]);
+            sum += share as u32 * u32::from(town.scores[p - 1]);
         }
     }
     sum

@@ -1,13 +1,19 @@
-//! The best division over given sites, n / K streets to each: by trying all of them, and, for long towns, by augmenting paths.
+//! The best division over given sites, to each its share: by trying all of them, and, for long towns, by augmenting paths.
+use super::shares::shares;
 use super::survey::division_total;
 use std::collections::VecDeque;
+
+/// The sites by rising number, each with its share, which it has from its entry in the list.
+fn ascending(n: usize, sites: &[u8]) -> Vec<(u8, usize)> {
+    let mut ascending: Vec<(u8, usize)> = sites.iter().copied().zip(shares(n, sites.len())).collect();
+    ascending.sort();
+    ascending
+}
 
 /// Tries every division in the shares, low site numbers and early streets first. The first one of the greatest total stays, and so it
 /// gives street 1 the lowest site number of all best ones, then street 2, and so on.
 pub fn by_trying(values: &[Vec<u32>], sites: &[u8]) -> Vec<u8> {
-    let mut ascending = sites.to_vec();
-    ascending.sort();
-    let mut left: Vec<(u8, usize)> = ascending.iter().map(|&site| (site, values.len() / sites.len())).collect();
+    let mut left = ascending(values.len(), sites);
     let mut best = None;
     try_from(values, &mut left, &mut Vec::new(), &mut best);
     best.expect("there is a division").1
@@ -34,11 +40,10 @@ fn try_from(values: &[Vec<u32>], left: &mut [(u8, usize)], division: &mut Vec<u8
 
 /// The same for long towns: a best division by augmenting paths, and then the tie rule by fixing street after street.
 pub fn by_paths(values: &[Vec<u32>], sites: &[u8]) -> Vec<u8> {
-    let mut ascending = sites.to_vec();
-    ascending.sort();
+    let (ascending, shares): (Vec<u8>, Vec<usize>) = ascending(values.len(), sites).into_iter().unzip();
     let value = |street: usize, a: usize| i64::from(values[street][ascending[a] as usize]);
     let table: Vec<Vec<i64>> = (0..values.len()).map(|street| (0..sites.len()).map(|a| value(street, a)).collect()).collect();
-    let best = some_best(&table, sites.len());
+    let best = some_best(&table, &shares);
     let first = first_best(&table, best, sites.len());
     first.iter().map(|&a| ascending[a]).collect()
 }
@@ -59,8 +64,8 @@ fn moves(table: &[Vec<i64>], division: &[usize], k: usize) -> Vec<Vec<Option<(i6
 
 /// Adds one street after the other, each along the chain of moves of greatest gain that ends at a site with room: after each the
 /// division of the streets so far is a best one.
-fn some_best(table: &[Vec<i64>], k: usize) -> Vec<usize> {
-    let share = table.len() / k;
+fn some_best(table: &[Vec<i64>], shares: &[usize]) -> Vec<usize> {
+    let k = shares.len();
     let mut division: Vec<usize> = Vec::new();
     for street in 0..table.len() {
         let moves = moves(table, &division, k);
@@ -79,7 +84,7 @@ fn some_best(table: &[Vec<i64>], k: usize) -> Vec<usize> {
                 }
             }
         }
-        let room = |a: &usize| division.iter().filter(|&&site| site == *a).count() < share;
+        let room = |a: &usize| division.iter().filter(|&&site| site == *a).count() < shares[*a];
         let mut a = (0..k).filter(room).max_by_key(|&a| gain[a]).expect("a site has room");
         while let Some(b) = from[a] {
             division[moves[b][a].expect("the chain went here").1] = a;

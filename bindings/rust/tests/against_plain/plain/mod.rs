@@ -1,8 +1,9 @@
-//! Document 01 in plain Rust. A refusal is its number, `Err(number)`; sites count from 1 and streets, in code, from 0.
+//! Document 01, with the requests that are in, in plain Rust. A refusal is its number, `Err(number)`; sites count from 1 and streets, in code, from 0.
 pub mod balanced;
 pub mod division;
 pub mod file;
 pub mod free;
 pub mod hand;
 pub mod refusals;
+pub mod shares;
 pub mod survey;

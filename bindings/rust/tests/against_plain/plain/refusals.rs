@@ -28,7 +28,7 @@ pub fn kind(kind: usize) -> Tried {
 }
 
 pub fn share(n: usize, k: usize) -> Tried {
-    refuse(5, !n.is_multiple_of(k))
+    refuse(5, k > n)
 }
 
 pub fn length(buffer: usize, exact: usize) -> Tried {
