@@ -9,7 +9,8 @@ constexpr std::size_t TOWNS = 5, TURNS = 21;
 
 constexpr Culture CULTURES[] = {Culture::Impartial, Culture::Mallows, Culture::Urn, Culture::ThreeNames};
 constexpr const char* NAMES[] = {"impartial", "Mallows", "urn", "three names"};
-constexpr std::size_t SITES[] = {4, 8, 20, 25, 40, 50};
+// With 7 and 33 sites the 400 streets don't divide evenly: shares of 58 and 57, and of 13 and 12.
+constexpr std::size_t SITES[] = {4, 7, 8, 20, 25, 33, 40, 50};
 
 // A plan of a town by either side.
 using Planner = std::function<Plan(const Town&)>;

@@ -73,6 +73,9 @@ private:
     }
 };
 
+// The streets of the site chosen in round i of k, from 0 on: where they don't divide evenly, the first rounds deal one more.
+inline std::size_t share(std::size_t n, std::size_t k, std::size_t i) { return n / k + (i < n % k ? 1 : 0); }
+
 // The rounds of the balanced plan. For each site the first streets come by a partial sort of those that are free.
 class RoundsPeer {
 public:
@@ -85,7 +88,7 @@ public:
         std::iota(free.begin(), free.end(), std::uint16_t{0});
         chosen.assign(town.m + 1, 0);
         std::vector<std::uint8_t> sites;
-        for (std::size_t i = 0; i < k; ++i) sites.push_back(static_cast<std::uint8_t>(round(town, town.n / k)));
+        for (std::size_t i = 0; i < k; ++i) sites.push_back(static_cast<std::uint8_t>(round(town, share(town.n, k, i))));
         return sites;
     }
 
@@ -149,7 +152,7 @@ public:
         graph.reserveArc(static_cast<int>(n * k));
         for (std::size_t i = 0; i < n + k; ++i) graph.addNode();
         for (std::size_t s = 0; s < n; ++s) supplies[graph.nodeFromId(static_cast<int>(s))] = 1;
-        for (std::size_t i = 0; i < k; ++i) supplies[site(i)] = -static_cast<int>(n / k);
+        for (std::size_t i = 0; i < k; ++i) supplies[site(i)] = -static_cast<int>(share(n, k, i));
         for (std::size_t s = 0; s < n; ++s)
             for (std::size_t i = 0; i < k; ++i) graph.addArc(graph.nodeFromId(static_cast<int>(s)), site(i));
         solver = std::make_unique<Solver>(graph, false); // mostly quicker here if it leaves the arcs in their order
