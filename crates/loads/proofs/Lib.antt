@@ -1,0 +1,2 @@
+pub mod SiteSums
+pub mod Limits
