@@ -1,17 +1,16 @@
 -- Laws of the table of the sites' numbers of streets, and of the two tests that a hand plan's sites are put to.
 -- Assumes nothing.
-use mathlib.Core.Path.{_≡_, refl, sym, ap, _∙_}
+use mathlib.Core.Path.{_≡_, refl, ap, _∙_}
 use mathlib.Core.Bool.{Bool}
 use mathlib.Core.Logic.{⊎-elim}
 use mathlib.Core.List.{List, []}
 use Prim.Native.Nat.{ℕ, suc, _+_, _≤_, _<_}
 use native.Mathlib.Nat.{eq-zero-or-pos}
-use native.Mathlib.Decide.{ℕ-discrete}
 use native.Mathlib.Numerals.{add-one}
 use native.Mathlib.Omega.{arith}
 use lib.Dec.{ltb, eqb}
-use lib.ListN.{length, take, set, replicate, length-set, length-replicate, getD-replicate}
-use lib.Seq.{length-take-le, take-all, getD-set-same, getD-set-other}
+use lib.ListN.{length, take}
+use lib.Seq.{take-all}
 use borrow.Author.Tests.{lt-ltb, le-ltb, eq-eqb, ne-eqb}
 use Rattle.counting.specs.Words.{one, countOf}
 use Rattle.counting.specs.Lists.{at, count}
@@ -19,9 +18,11 @@ use Rattle.counting.proofs.Membership.{one-not}
 use Rattle.counting.proofs.Listed.{count-most}
 use Rattle.counting.proofs.Sums.{sumOf-same, sumOf-next}
 use Rattle.division.specs.Shares.{divisionTotal}
-use Rattle.division.proofs.Counts.{by-order, count-suc, divisionTotal-suc}
+use Rattle.division.proofs.Counts.{by-order, divisionTotal-suc}
+use Rattle.loads.specs.Sums.{Summed}
+use Rattle.loads.proofs.SiteSums.{streets-sum}
 use Rattle.refusals.specs.Refusals.{sitesWith}
-use Rattle.hand_plans.specs.Counts.{between, Counted}
+use Rattle.hand_plans.specs.Counts.{between}
 
 -- ---- a number within two bounds
 -- it is below the one, or above the other, or neither
@@ -39,42 +40,6 @@ pub one-most : (test : ℕ → Bool) (x streets : ℕ) → x ≡ one (test stree
 one-most test x streets e = omega (arith, one-not (test streets))
 
 -- ---- the table
--- no street is counted yet
-pub counted-none : Counted (replicate 256 0) []
-unfolding count
-counted-none = record { size = length-replicate {A = ℕ} 256 0; right = λ a l. getD-replicate 256 a 0 0 l }
-
-module _ (counts division : List ℕ) (s : ℕ) (more : s < length division) (small : at division s < 256) (h : Counted counts (take s division)) where
-  -- one street more can be counted
-  pub counted-room : at counts (at division s) ≤ s
-  counted-room =
-      omega (arith, h .right (at division s) small, count-most (take s division) (at division s), length-take-le s division (omega arith))
-
-  -- and is
-  pub counted-more : Counted (set counts (at division s) (at counts (at division s) + 1)) (take (s + 1) division)
-  counted-more =
-      record {
-        size = simp length-set (h .size);
-        right = λ a l. go a (h .right a l) (ℕ-discrete a (at division s)) ∙ sym (rw add-one (count-suc division s a more));
-      }
-    where
-      now : List ℕ
-      now = set counts (at division s) (at counts (at division s) + 1)
-
-      go : (a : ℕ) → at counts a ≡ count (take s division) a → Dec (a ≡ at division s)
-          → at now a ≡ count (take s division) a + one (eqb (at division s) a)
-      go a e (yes q) =
-          let here : at now (at division s) ≡ at counts (at division s) + 1 = getD-set-same counts (at division s) (at counts (at division s) + 1) 0 (omega (arith, h .size)) in
-          let same : one (eqb (at division s) a) ≡ 1 = rw (eq-eqb (at division s) a (sym q)) refl in
-          omega (arith, ap (λ (x : ℕ). at now x) q, ap (λ (x : ℕ). at counts x) q, here, same, e)
-      go a e (no q) =
-          let other : one (eqb (at division s) a) ≡ 0 = rw (ne-eqb (at division s) a (λ p. q (sym p))) refl in
-          omega (arith, getD-set-other counts (at division s) a (at counts (at division s) + 1) 0 q, other, e)
-
--- every street is counted
-pub counted-all : (counts division : List ℕ) (s : ℕ) → length division ≤ s → Counted counts (take s division) → Counted counts division
-counted-all counts division s l h = rw (take-all s division l) at h
-
 -- one site more is looked at
 pub sites-more : (test : ℕ → Bool) (counts : List ℕ) (a sites x : ℕ) → sites ≡ countOf a (λ i. test (at counts (suc i))) → sites ≤ a
     → x ≡ one (test (at counts (a + 1))) → (sites + x ≡ countOf (a + 1) (λ i. test (at counts (suc i)))) × (sites + x ≤ a + 1)
@@ -83,9 +48,10 @@ sites-more test counts a sites x e l q =
     (omega (arith, sumOf-next a (λ i. one (test (at counts (suc i))))), omega (arith, one-not (test (at counts (suc a)))))
 
 -- what the table says of the sites is said of the division
-sites-counted : (counts division : List ℕ) (m : ℕ) (test : ℕ → Bool) → m ≤ 64 → Counted counts division
+sites-counted : (counts division : List ℕ) (m : ℕ) (test : ℕ → Bool) → m ≤ 64 → Summed (λ s. 1) counts division
     → countOf m (λ i. test (at counts (suc i))) ≡ sitesWith test m division
-sites-counted counts division m test few h = sumOf-same m _ _ (λ i l. ap (λ (x : ℕ). one (test x)) (h .right (suc i) (omega arith)))
+sites-counted counts division m test few h =
+    sumOf-same m _ _ (λ i l. ap (λ (x : ℕ). one (test x)) (h .right (suc i) (omega arith) ∙ streets-sum division (suc i)))
 
 -- ---- the two tests
 -- tests that agree on each number up to the number of streets pass the same sites
@@ -116,7 +82,7 @@ share-sites q m division = sites-same (between q q) (eqb q) m division (λ x l. 
     less x l = rw (lt-ltb x q l, ne-eqb q x (λ e. omega arith)) refl
 
 -- both tests by the table
-module _ (counts division : List ℕ) (m x : ℕ) (few : m ≤ 64) (h : Counted counts division) where
+module _ (counts division : List ℕ) (m x : ℕ) (few : m ≤ 64) (h : Summed (λ s. 1) counts division) where
   pub used-counted : x ≡ countOf m (λ i. between 1 (length division) (at counts (suc i))) → x ≡ sitesWith (ltb 0) m division
   used-counted e = e ∙ sites-counted counts division m (between 1 (length division)) few h ∙ used-sites m division
 

@@ -2,21 +2,22 @@
 use survey::check;
 ghost use mathlib.Core.Path.{_≡_};
 ghost use Prim.Native.Nat.{_+_, _*_, _≤_, _<_, suc};
-ghost use lib.Dec.{ltb};
 ghost use lib.ListN.{length};
 ghost use Rattle.counting.specs.Bounds.{mostStreets, mostSites};
-ghost use Rattle.counting.specs.Words.{_when_, one, countOf};
+ghost use Rattle.counting.specs.Words.{_orElse_, one, countOf};
 ghost use Rattle.counting.specs.Lists.{at};
 ghost use Rattle.survey.specs.Town.{town, was};
 ghost use Rattle.survey.specs.Rows.{rowAt, scoreOf, value};
 ghost use Rattle.division.specs.Shares.{divisionTotal};
+ghost use Rattle.loads.specs.Loads.{loadsOf, loadsLent, lengthsRefusal};
+ghost use Rattle.loads.specs.Sums.{Summed};
 ghost use Rattle.refusals.specs.Inputs.{handLent};
-ghost use Rattle.refusals.specs.Refusals.{Tried, sitesWith, sharesRefusal, claimRefusal, freeHandRefusal, balancedHandRefusal};
-ghost use Rattle.hand_plans.specs.Counts.{between, Counted};
+ghost use Rattle.refusals.specs.Refusals.{Tried, usedRefusal, sharesRefusal, claimRefusal, loadNumbers, sentRefusal, freeHandRefusal, balancedHandRefusal};
+ghost use Rattle.hand_plans.specs.Counts.{between};
 
 // How many streets each site has, and how many have none, in one pass over the division.
 fn count_streets(division: &[u8]) -> [usize; 256]
-    ensures { λ r. ⌜ Counted r (was division) ⌝ }
+    ensures { λ r. ⌜ Summed (λ s. 1) r (was division) ⌝ }
 {
     let mut counts = [0usize; 256];
     for s in 0..division.len() {
@@ -54,7 +55,7 @@ fn count_sites(counts: &[usize; 256], m: usize, least: usize, most: usize) -> us
 // 18 of a free plan: more than k sites are used. No site has more than all streets, so those with 1 street up to all are the used ones.
 fn used_refusal(division: &[u8], m: usize, k: usize) -> u8
     requires { ⌜ m ≤ mostSites ⌝ }
-    ensures { λ r. ⌜ r ≡ 18 when ltb k (sitesWith (ltb 0) m (was division)) ⌝ }
+    ensures { λ r. ⌜ r ≡ usedRefusal m k (was division) ⌝ }
 {
     let counts = count_streets(division);
     if k < count_sites(&counts, m, 1, division.len()) {
@@ -121,6 +122,78 @@ fn claim_refusal(
     0
 }
 
+// 6 for the buffers of the loads, where the number of the buffer before them is 0.
+fn lengths_refusal(
+    before: u8,
+    n: usize,
+    m: usize,
+    kilograms: &[u32],
+    litres: &[u32],
+    kilogram_limits: &[u32],
+    litre_limits: &[u32],
+) -> u8
+    ensures { λ r. ⌜ r ≡ before orElse lengthsRefusal n m (loadsLent kilograms litres «kilogram_limits» «litre_limits») ⌝ }
+{
+    if before != 0 {
+        return before;
+    }
+    if kilograms.len() != n {
+        return 6;
+    }
+    if litres.len() != n {
+        return 6;
+    }
+    if kilogram_limits.len() != m {
+        return 6;
+    }
+    refusals::length_refusal(litre_limits.len(), m)
+}
+
+// What a hand plan is tried for behind its survey: its loads, its sites from the lowest one allowed, the 18 of its kind, the limits, and the claim.
+fn sent_refusal(
+    n: usize,
+    m: usize,
+    scores: &[u16],
+    rows: &[u8],
+    division: &[u8],
+    claimed: u32,
+    kilograms: &[u32],
+    litres: &[u32],
+    kilogram_limits: &[u32],
+    litre_limits: &[u32],
+    low: u8,
+    used: u8,
+) -> u8
+    requires { ⌜ (length (now rows) ≡ n * m) × (length (now division) ≡ n) × (n ≤ mostStreets) × (m ≤ mostSites) ⌝ }
+    requires { ⌜ lengthsRefusal n m (loadsOf (now kilograms) (now litres) (now «kilogram_limits») (now «litre_limits»)) ≡ 0 ⌝ }
+    ensures { λ r. ⌜ r ≡ sentRefusal (town n m scores rows) (was division) claimed low used
+        (loadNumbers (town n m scores rows) (was division) (loadsLent kilograms litres «kilogram_limits» «litre_limits»)) ⌝ }
+{
+    let r = loads::loads_refusal(kilograms, litres, kilogram_limits, litre_limits);
+    if r != 0 {
+        return r;
+    }
+    let r = refusals::ranges_refusal(low, m, division);
+    if r != 0 {
+        return r;
+    }
+    if used != 0 {
+        return used;
+    }
+    let r = loads::limits_refusal(
+        m,
+        division,
+        kilograms,
+        litres,
+        kilogram_limits,
+        litre_limits,
+    );
+    if r != 0 {
+        return r;
+    }
+    claim_refusal(n, m, scores, rows, division, claimed)
+}
+
 // A free hand plan: a street may go to site 0, and at most k sites are used.
 pub fn free_hand_refusal(
     n: usize,
@@ -130,23 +203,34 @@ pub fn free_hand_refusal(
     rows: &[u8],
     division: &[u8],
     claimed: u32,
+    kilograms: &[u32],
+    litres: &[u32],
+    kilogram_limits: &[u32],
+    litre_limits: &[u32],
 ) -> u8
-    ensures { λ r. ⌜ Tried freeHandRefusal (handLent n m k scores rows division claimed) r ⌝ }
+    ensures { λ r. ⌜ Tried freeHandRefusal (handLent n m k scores rows division claimed kilograms litres «kilogram_limits» «litre_limits») r ⌝ }
 {
     let own = refusals::length_refusal(division.len(), n);
+    let own = lengths_refusal(own, n, m, kilograms, litres, kilogram_limits, litre_limits);
     let r = check::survey_refusal(n, m, k, own, scores, rows);
     if r != 0 {
         return r;
     }
-    let r = refusals::ranges_refusal(0, m, division);
-    if r != 0 {
-        return r;
-    }
-    let r = used_refusal(division, m, k);
-    if r != 0 {
-        return r;
-    }
-    claim_refusal(n, m, scores, rows, division, claimed)
+    let used = used_refusal(division, m, k);
+    sent_refusal(
+        n,
+        m,
+        scores,
+        rows,
+        division,
+        claimed,
+        kilograms,
+        litres,
+        kilogram_limits,
+        litre_limits,
+        0,
+        used,
+    )
 }
 
 // A balanced hand plan: every street goes to a site, and k sites have the rounds' shares, in any order.
@@ -158,21 +242,32 @@ pub fn balanced_hand_refusal(
     rows: &[u8],
     division: &[u8],
     claimed: u32,
+    kilograms: &[u32],
+    litres: &[u32],
+    kilogram_limits: &[u32],
+    litre_limits: &[u32],
 ) -> u8
-    ensures { λ r. ⌜ Tried balancedHandRefusal (handLent n m k scores rows division claimed) r ⌝ }
+    ensures { λ r. ⌜ Tried balancedHandRefusal (handLent n m k scores rows division claimed kilograms litres «kilogram_limits» «litre_limits») r ⌝ }
 {
     let own = refusals::balance_refusal(n, k, division);
+    let own = lengths_refusal(own, n, m, kilograms, litres, kilogram_limits, litre_limits);
     let r = check::survey_refusal(n, m, k, own, scores, rows);
     if r != 0 {
         return r;
     }
-    let r = refusals::ranges_refusal(1, m, division);
-    if r != 0 {
-        return r;
-    }
-    let r = shares_refusal(n, m, k, division);
-    if r != 0 {
-        return r;
-    }
-    claim_refusal(n, m, scores, rows, division, claimed)
+    let used = shares_refusal(n, m, k, division);
+    sent_refusal(
+        n,
+        m,
+        scores,
+        rows,
+        division,
+        claimed,
+        kilograms,
+        litres,
+        kilogram_limits,
+        litre_limits,
+        1,
+        used,
+    )
 }

@@ -4,6 +4,7 @@
 use Prim.Native.Nat.{ℕ}
 use mathlib.Core.List.{List}
 use Rattle.survey.specs.Town.{Town, Lent, was, town}
+use Rattle.loads.specs.Loads.{Loads, loadsLent}
 
 -- a survey with k sites to be chosen: check and floor
 pub record SurveyInput : Type 0 where
@@ -65,18 +66,20 @@ planOf t k division chosen = record { town = t; k = k; division = division; chos
 abbrev pub planLent : ℕ → ℕ → ℕ → Lent → Lent → Lent → Lent → PlanInput
 planLent n m k scores rows division chosen = planOf (town n m scores rows) k (was division) (was chosen)
 
--- a hand-made plan of k sites, free or balanced: a site for each street, and the total that is claimed
+-- a hand-made plan of k sites, free or balanced: a site for each street, the total that is claimed, and what the streets bring to their sites
 pub record HandInput : Type 0 where
   pub town : Town
   pub k : ℕ
   pub division : List ℕ
   pub claimed : ℕ
+  pub loads : Loads
 
-abbrev pub handOf : Town → ℕ → List ℕ → ℕ → HandInput
-handOf t k division claimed = record { town = t; k = k; division = division; claimed = claimed }
+abbrev pub handOf : Town → ℕ → List ℕ → ℕ → Loads → HandInput
+handOf t k division claimed loads = record { town = t; k = k; division = division; claimed = claimed; loads = loads }
 
-abbrev pub handLent : ℕ → ℕ → ℕ → Lent → Lent → Lent → ℕ → HandInput
-handLent n m k scores rows division claimed = handOf (town n m scores rows) k (was division) claimed
+abbrev pub handLent : ℕ → ℕ → ℕ → Lent → Lent → Lent → ℕ → Lent → Lent → Lent → Lent → HandInput
+handLent n m k scores rows division claimed kilograms litres kilogramLimits litreLimits =
+    handOf (town n m scores rows) k (was division) claimed (loadsLent kilograms litres kilogramLimits litreLimits)
 
 -- a survey with its kind, and a buffer for its file
 pub record WriteInput : Type 0 where

@@ -15,6 +15,7 @@ use Rattle.survey.specs.Rows.{value}
 use Rattle.survey.specs.Refusals.{sitesRefusal, kindRefusal, shareRefusal, lengthRefusal, scoresRefusal, rowRefusal, surveyRefusal}
 use Rattle.shares.specs.Rounds.{leastShare, largerShares}
 use Rattle.division.specs.Shares.{divisionTotal}
+use Rattle.loads.specs.Loads.{Loads, lengthsRefusal, loadsRefusal, limitsRefusal}
 use Rattle.survey_file.specs.Encode.{encode}
 use Rattle.survey_file.specs.Decode.{fileRefusal}
 use Rattle.refusals.specs.Inputs.{SurveyInput, RowInput, ListInput, DivisionInput, PlanInput, HandInput, WriteInput, ReadInput}
@@ -98,13 +99,9 @@ sitesWith test m division = countOf m (λ i. test (count division (suc i)))
 abbrev pub claimRefusal : Town → List ℕ → ℕ → ℕ
 claimRefusal t division claimed = 19 unless eqb claimed (divisionTotal (value t) division)
 
--- free hand plan; 18: more than k sites are used, 0 not counted
-abbrev pub freeHandRefusal : HandInput → ℕ
-freeHandRefusal i =
-    surveyRefusal (i .town) (i .k) (lengthRefusal (length (i .division)) (i .town .n)) orElse
-    rangesRefusal 0 (i .town .m) (i .division) orElse
-    18 when ltb (i .k) (sitesWith (ltb 0) (i .town .m) (i .division)) orElse
-    claimRefusal (i .town) (i .division) (i .claimed)
+-- 18 of a free plan: more than k sites are used, 0 not counted
+abbrev pub usedRefusal : ℕ → ℕ → List ℕ → ℕ
+usedRefusal m k division = 18 when ltb k (sitesWith (ltb 0) m division)
 
 -- 18 of a balanced plan: not exactly r sites have q + 1 streets, or not exactly k - r have q
 abbrev pub sharesRefusal : ℕ → ℕ → ℕ → List ℕ → ℕ
@@ -112,13 +109,51 @@ sharesRefusal n m k division =
     18 unless eqb (sitesWith (eqb (suc (leastShare n k))) m division) (largerShares n k) orElse
     18 unless eqb (sitesWith (eqb (leastShare n k)) m division) (k - largerShares n k)
 
--- balanced hand plan
+-- what the loads of a hand plan are tried for: 6, 21, then 22 and 23
+pub record LoadNumbers : Type 0 where
+  pub lengths : ℕ
+  pub above : ℕ
+  pub over : ℕ
+
+abbrev pub loadNumbers : Town → List ℕ → Loads → LoadNumbers
+loadNumbers t division loads =
+    record { lengths = lengthsRefusal (t .n) (t .m) loads; above = loadsRefusal loads; over = limitsRefusal (t .m) loads division }
+
+-- a hand plan without loads is tried for nothing of theirs
+abbrev pub noLoads : LoadNumbers
+noLoads = record { lengths = 0; above = 0; over = 0 }
+
+-- what a hand plan is tried for behind its survey; `low` is the lowest site that a street may have, and `used` the 18 of its kind
+abbrev pub sentRefusal : Town → List ℕ → ℕ → ℕ → ℕ → LoadNumbers → ℕ
+sentRefusal t division claimed low used loads =
+    loads .above orElse
+    rangesRefusal low (t .m) division orElse
+    used orElse
+    loads .over orElse
+    claimRefusal t division claimed
+
+-- free hand plan, by the numbers of its loads
+abbrev pub freeHandBy : LoadNumbers → HandInput → ℕ
+freeHandBy loads i =
+    surveyRefusal (i .town) (i .k) (lengthRefusal (length (i .division)) (i .town .n) orElse loads .lengths) orElse
+    sentRefusal (i .town) (i .division) (i .claimed) 0 (usedRefusal (i .town .m) (i .k) (i .division)) loads
+
+abbrev pub freeHandRefusal : HandInput → ℕ
+freeHandRefusal i = freeHandBy (loadNumbers (i .town) (i .division) (i .loads)) i
+
+-- balanced hand plan, by the numbers of its loads
+abbrev pub balancedHandBy : LoadNumbers → HandInput → ℕ
+balancedHandBy loads i =
+    surveyRefusal (i .town) (i .k) (balanceRefusal (i .town .n) (i .k) (i .division) orElse loads .lengths) orElse
+    sentRefusal (i .town) (i .division) (i .claimed) 1 (sharesRefusal (i .town .n) (i .town .m) (i .k) (i .division)) loads
+
 abbrev pub balancedHandRefusal : HandInput → ℕ
-balancedHandRefusal i =
-    surveyRefusal (i .town) (i .k) (balanceRefusal (i .town .n) (i .k) (i .division)) orElse
-    rangesRefusal 1 (i .town .m) (i .division) orElse
-    sharesRefusal (i .town .n) (i .town .m) (i .k) (i .division) orElse
-    claimRefusal (i .town) (i .division) (i .claimed)
+balancedHandRefusal i = balancedHandBy (loadNumbers (i .town) (i .division) (i .loads)) i
+
+-- no load and no limit of a hand plan is refused
+pub record LoadsTaken (t : Town) (loads : Loads) : Type 0 where
+  pub lengths : lengthsRefusal (t .n) (t .m) loads ≡ 0
+  pub above : loadsRefusal loads ≡ 0
 
 -- reading a file into a row buffer and a score buffer
 abbrev pub readRefusal : ReadInput → ℕ
