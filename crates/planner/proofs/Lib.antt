@@ -4,3 +4,4 @@ pub mod OwnTests
 pub mod FreePromises
 pub mod BalancedPromises
 pub mod FilePromises
+pub mod HandPromises

@@ -29,11 +29,12 @@ use Rattle.division.proofs.Best.{divide-length}
 use Rattle.free_plan.specs.Greedy.{goesTo}
 use Rattle.free_plan.proofs.Sites.{goes-chosen}
 use Rattle.free_results.proofs.Scored.{served-total}
-use Rattle.refusals.specs.Refusals.{sitesWith, freeHandRefusal, balancedHandRefusal}
+use Rattle.refusals.specs.Refusals.{sitesWith, freeHandBy, freeHandRefusal, balancedHandBy, balancedHandRefusal}
 use Rattle.refusals.proofs.Listed.{enough}
-use Rattle.refusals.proofs.Passed.{free-passed, balanced-passed}
+use Rattle.refusals.proofs.Passed.{free-passed, balanced-passed, loads-same}
 use Rattle.refusals.specs.Inputs.{handOf}
 use Rattle.plans.specs.Plans.{listTotal, freeDivision, planTotal, sharesFor, balancedDivision}
+use Rattle.planner.specs.Good.{PassesTest}
 
 module _ (t : Town) (k own : ℕ) (ok : surveyRefusal t k own ≡ 0) (sites : List ℕ) (plan : Choice (t .m) k sites) where
   -- ---- the free division
@@ -66,10 +67,11 @@ module _ (t : Town) (k own : ℕ) (ok : surveyRefusal t k own ≡ 0) (sites : Li
       (⊎-elim (λ z. omega (arith, z)) (λ p. plan .sites (goes s) (goes-chosen (listOfStreet t s) sites p) .1) (eq-zero-or-pos (goes s)))
 
   -- the free division with the total of the sites passes
-  pub free-list-passes : freeHandRefusal (handOf t k (freeDivision t sites) (listTotal t sites)) ≡ 0
-  free-list-passes =
-      free-passed (handOf t k (freeDivision t sites) (listTotal t sites)) own ok (listOf-length (t .n) goes)
-      (sym (served-total t sites (accepted t k own ok .sound-scores))) low few
+  pub free-list-passes : PassesTest freeHandRefusal t k (freeDivision t sites) (listTotal t sites)
+  free-list-passes loads taken w =
+      let i = handOf t k (freeDivision t sites) (listTotal t sites) loads in
+      loads-same freeHandBy i taken w
+      ∙ free-passed i own ok (listOf-length (t .n) goes) (sym (served-total t sites (accepted t k own ok .sound-scores))) low few
 
   -- ---- the balanced division
   module _ (passes : shareRefusal (t .n) k ≡ 0) (in-shares : InShares (balancedDivision t sites) (sharesFor t sites)) where
@@ -105,9 +107,11 @@ module _ (t : Town) (k own : ℕ) (ok : surveyRefusal t k own ≡ 0) (sites : Li
     some-share = least-some (t .n) k some-site (enough (t .n) k passes)
 
     -- the balanced division with its own total passes
-    pub balanced-list-passes : balancedHandRefusal (handOf t k (balancedDivision t sites) (planTotal t (balancedDivision t sites))) ≡ 0
-    balanced-list-passes =
-        balanced-passed (handOf t k D (planTotal t D)) own ok length-D refl passes
+    pub balanced-list-passes : PassesTest balancedHandRefusal t k (balancedDivision t sites) (planTotal t (balancedDivision t sites))
+    balanced-list-passes loads taken w =
+        let i = handOf t k D (planTotal t D) loads in
+        loads-same balancedHandBy i taken w
+        ∙ balanced-passed i own ok length-D refl passes
         (λ s l. served (at D s) (has-share D (sharesFor t sites) in-shares s (omega (arith, length-D))))
         (shared (suc (leastShare (t .n) k)) (omega arith) ∙ larger-rounds (t .n) k some-site)
         (shared (leastShare (t .n) k) some-share ∙ least-rounds (t .n) k some-site)

@@ -14,12 +14,13 @@ use Rattle.survey_file.specs.FileBuffers.{rowsRead, scoresRead, fileWritten}
 use Rattle.plans.specs.Plans.{listTotal, freeDivision, freeSites, planTotal, balancedDivision, balancedSites, balancedTotal, planFloor}
 use Rattle.refusals.specs.Inputs.{SurveyInput, RowInput, ListInput, DivisionInput, PlanInput, HandInput, WriteInput, ReadInput}
 use Rattle.refusals.specs.Refusals.{checkRefusal, rowScoreRefusal, listTotalRefusal, freeDivisionRefusal, balancedDivisionRefusal, freePlanRefusal}
-use Rattle.refusals.specs.Refusals.{balancedPlanRefusal, floorRefusal, freeHandRefusal, balancedHandRefusal, writeRefusal, readRefusal}
+use Rattle.refusals.specs.Refusals.{balancedPlanRefusal, floorRefusal, noLoads, freeHandBy, freeHandRefusal, balancedHandBy, balancedHandRefusal}
+use Rattle.refusals.specs.Refusals.{LoadsTaken, writeRefusal, readRefusal}
 use Rattle.planner.specs.declared.Checked.{Checked}
 use Rattle.planner.specs.declared.Answer.{Answer}
 use Rattle.planner.specs.declared.Read.{Read}
-use Rattle.planner.specs.Answers.{Answered, Told, ReadTold, accepts, total, readAccepts}
-use Rattle.planner.specs.Good.{GoodFree, BestDivision, GoodBalanced, SharedHand, ReadsBack, WritesBack}
+use Rattle.planner.specs.Answers.{Answered, Told, ReadTold, number, accepts, total, readAccepts}
+use Rattle.planner.specs.Good.{GoodFree, BestDivision, GoodBalanced, LoadedHand, SharedHand, ReadsBack, WritesBack}
 
 -- checking a survey
 pub record SurveyChecked (i : SurveyInput) (r : Checked) : Type 0 where
@@ -90,11 +91,15 @@ pub record FloorGiven (i : SurveyInput) (r : Answer) : Type 0 where
 pub record FreeHandTested (i : HandInput) (r : Answer) : Type 0 where
   -- the first number that applies, or the plan's total
   pub answer : Told r (freeHandRefusal i) (planTotal (i .town) (i .division))
+  -- with no load or limit refused, it passes exactly where it passes without loads and each site's two sums are within its limits
+  pub loaded : LoadsTaken (i .town) (i .loads) → LoadedHand i (freeHandBy noLoads i) (number r)
 
 -- or balanced
 pub record BalancedHandTested (i : HandInput) (r : Answer) : Type 0 where
   -- the first number that applies, or the plan's total
   pub answer : Told r (balancedHandRefusal i) (planTotal (i .town) (i .division))
+  -- with no load or limit refused, it passes exactly where it passes without loads and each site's two sums are within its limits
+  pub loaded : LoadsTaken (i .town) (i .loads) → LoadedHand i (balancedHandBy noLoads i) (number r)
   -- a plan that passes is a division in the shares of some K sites
   pub shared : accepts r ≡ true → SharedHand (i .town) (i .k) (i .division)
 

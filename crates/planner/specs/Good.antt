@@ -12,8 +12,14 @@ use Rattle.survey.specs.Refusals.{kindRefusal, surveyRefusal}
 use Rattle.survey_file.specs.Encode.{mostFile, encode}
 use Rattle.survey_file.specs.Decode.{decode, Given, townIn, chosenIn, kindIn}
 use Rattle.plans.specs.Plans.{listTotal, planTotal, sharesFor, balancedDivision, planFloor}
-use Rattle.refusals.specs.Inputs.{handOf}
-use Rattle.refusals.specs.Refusals.{freeHandRefusal, balancedHandRefusal}
+use Rattle.loads.specs.Loads.{Loads, Within}
+use Rattle.refusals.specs.Inputs.{HandInput, handOf}
+use Rattle.refusals.specs.Refusals.{LoadsTaken, freeHandRefusal, balancedHandRefusal}
+
+-- a plan passes a test of hand plans, whatever its streets bring, if no load or limit is refused and each site's two sums are within its limits
+abbrev pub PassesTest : (HandInput → ℕ) → Town → ℕ → List ℕ → ℕ → Type 0
+PassesTest test t k division reported =
+    (loads : Loads) → LoadsTaken t loads → Within (t .m) loads division → test (handOf t k division reported loads) ≡ 0
 
 -- a free plan of k sites with the total that it reports
 pub record GoodFree (t : Town) (k : ℕ) (division chosen : List ℕ) (reported : ℕ) : Type 0 where
@@ -25,7 +31,7 @@ pub record GoodFree (t : Town) (k : ℕ) (division chosen : List ℕ) (reported 
   -- no choice of k sites is better by more than the bound says: K ^ K * (T - S) ≤ (K - 1) ^ K * T
   pub bound : (other : List ℕ) → Choice (t .m) k other → k ^ k * (listTotal t other - reported) ≤ (k - 1) ^ k * listTotal t other
   -- the plan passes the test of a free hand plan
-  pub passes : freeHandRefusal (handOf t k division reported) ≡ 0
+  pub passes : PassesTest freeHandRefusal t k division reported
 
 -- a balanced division over a list of sites with the total that it reports
 pub record BestDivision (t : Town) (sites division : List ℕ) (reported : ℕ) : Type 0 where
@@ -47,7 +53,7 @@ pub record GoodBalanced (t : Town) (k : ℕ) (division chosen : List ℕ) (repor
   -- the total is at least the floor
   pub floor : planFloor t k ≤ reported
   -- the plan passes the test of a balanced hand plan
-  pub passes : balancedHandRefusal (handOf t k division reported) ≡ 0
+  pub passes : PassesTest balancedHandRefusal t k division reported
 
 -- a balanced hand plan of k sites that passes: a division in the shares of some list of k different sites, which totals at most as much as the best
 -- one over that list
@@ -56,6 +62,13 @@ pub record SharedHand (t : Town) (k : ℕ) (division : List ℕ) : Type 0 where
   pub choice : Choice (t .m) k sites
   pub in-shares : InShares division (sharesFor t sites)
   pub most : planTotal t division ≤ planTotal t (balancedDivision t sites)
+
+-- a hand plan of which no load or limit is refused; x is its number, and `without` the number that the same plan has without loads
+pub record LoadedHand (i : HandInput) (without x : ℕ) : Type 0 where
+  -- it passes only where the plan without loads passes and each site's two sums are within its limits
+  pub only : x ≡ 0 → (without ≡ 0) × Within (i .town .m) (i .loads) (i .division)
+  -- and where they are, its number is that of the plan without loads
+  pub same : Within (i .town .m) (i .loads) (i .division) → x ≡ without
 
 -- a survey that was written: the first bytes of the buffer are a file that reading gives back as this very survey
 pub record ReadsBack (t : Town) (k kind : ℕ) (file : List ℕ) (size : ℕ) : Type 0 where

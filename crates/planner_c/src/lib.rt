@@ -46,7 +46,7 @@ fn packed_answer(answer: Answer) -> u64
 pub extern "C" fn planner_version() -> u32
     ensures { λ r. ⌜ r ≡ version ⌝ }
 {
-    202601
+    202602
 }
 
 // Checks a survey of n streets and m sites of which k are to be chosen; its total is 0.
@@ -163,7 +163,8 @@ pub extern "C" fn planner_floor(n: usize, m: usize, k: usize, scores: &[u16], ro
     packed_answer(planner::floor(n, m, k, scores, rows))
 }
 
-// Tests a hand-made free plan: the site of each street, 0 for none, and the total that is claimed for it.
+// Tests a hand-made free plan: the site of each street, 0 for none, and the total that is claimed for it. Each street brings kilograms and litres,
+// and each site has a limit of both.
 #[no_mangle]
 pub extern "C" fn planner_free_hand(
     n: usize,
@@ -173,13 +174,29 @@ pub extern "C" fn planner_free_hand(
     rows: &[u8],
     division: &[u8],
     claimed: u32,
+    kilograms: &[u32],
+    litres: &[u32],
+    kilogram_limits: &[u32],
+    litre_limits: &[u32],
 ) -> u64
-    ensures { λ r. ⌜ PacksAnswer (FreeHandTested (handLent n m k scores rows division claimed)) r ⌝ }
+    ensures { λ r. ⌜ PacksAnswer (FreeHandTested (handLent n m k scores rows division claimed kilograms litres «kilogram_limits» «litre_limits»)) r ⌝ }
 {
-    packed_answer(planner::free_hand(n, m, k, scores, rows, division, claimed))
+    packed_answer(planner::free_hand(
+        n,
+        m,
+        k,
+        scores,
+        rows,
+        division,
+        claimed,
+        kilograms,
+        litres,
+        kilogram_limits,
+        litre_limits,
+    ))
 }
 
-// Tests a hand-made balanced plan: k sites with the shares of a balanced plan, and the total that is claimed for it.
+// Tests a hand-made balanced plan: k sites with the shares of a balanced plan, and the total that is claimed for it; loads as above.
 #[no_mangle]
 pub extern "C" fn planner_balanced_hand(
     n: usize,
@@ -189,10 +206,26 @@ pub extern "C" fn planner_balanced_hand(
     rows: &[u8],
     division: &[u8],
     claimed: u32,
+    kilograms: &[u32],
+    litres: &[u32],
+    kilogram_limits: &[u32],
+    litre_limits: &[u32],
 ) -> u64
-    ensures { λ r. ⌜ PacksAnswer (BalancedHandTested (handLent n m k scores rows division claimed)) r ⌝ }
+    ensures { λ r. ⌜ PacksAnswer (BalancedHandTested (handLent n m k scores rows division claimed kilograms litres «kilogram_limits» «litre_limits»)) r ⌝ }
 {
-    packed_answer(planner::balanced_hand(n, m, k, scores, rows, division, claimed))
+    packed_answer(planner::balanced_hand(
+        n,
+        m,
+        k,
+        scores,
+        rows,
+        division,
+        claimed,
+        kilograms,
+        litres,
+        kilogram_limits,
+        litre_limits,
+    ))
 }
 
 // Writes the survey file into a buffer of any length; the total is the file's length.

@@ -4,18 +4,21 @@ use mathlib.Core.Bool.{false≢true}
 use Rattle.refusals.proofs.Passed.{hand-passed}
 use Rattle.planner.proofs.Answers.{told-refused, told-total}
 use Rattle.planner.proofs.BalancedPromises.{shared-hand}
+use Rattle.planner.proofs.HandPromises.{balanced-loaded}
 use Rattle.planner.proofs.balanced_hand.Statement.{statement}
 use Rattle.planner.proofs.balanced_hand.Tie as tie
 
 returns : tie.Need-returns
 returns c =
-    record { answer = told-refused (c .before .balanced-hand-refusal .ensures) (c .if1 .taken); shared = λ y. absurd (false≢true y) }
+    let tried = c .before .balanced-hand-refusal .ensures in
+    record { answer = told-refused tried (c .if1 .taken); loaded = balanced-loaded tried; shared = λ y. absurd (false≢true y) }
 
 returns-2 : tie.Need-returns-2
 returns-2 c =
     let tried = c .before .balanced-hand-refusal .ensures in
-    let h = hand-passed tried (c .if1 .left) in
-    record { answer = told-total tried (c .if1 .left) (h .right); shared = λ y. shared-hand h }
+    let z = c .if1 .left in
+    let h = hand-passed tried z in
+    record { answer = told-total tried z (h .right); loaded = balanced-loaded (rw z at tried); shared = λ y. shared-hand h }
 
 pub balanced-hand-spec : {M : Type 1} → statement M
 balanced-hand-spec =

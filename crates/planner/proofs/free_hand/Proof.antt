@@ -2,16 +2,20 @@
 use borrow.Author.Needs.{needs}
 use Rattle.refusals.proofs.Passed.{free-claimed}
 use Rattle.planner.proofs.Answers.{told-refused, told-total}
+use Rattle.planner.proofs.HandPromises.{free-loaded}
 use Rattle.planner.proofs.free_hand.Statement.{statement}
 use Rattle.planner.proofs.free_hand.Tie as tie
 
 returns : tie.Need-returns
-returns c = record { answer = told-refused (c .before .free-hand-refusal .ensures) (c .if1 .taken) }
+returns c =
+    let tried = c .before .free-hand-refusal .ensures in
+    record { answer = told-refused tried (c .if1 .taken); loaded = free-loaded tried }
 
 returns-2 : tie.Need-returns-2
 returns-2 c =
     let tried = c .before .free-hand-refusal .ensures in
-    record { answer = told-total tried (c .if1 .left) (free-claimed tried (c .if1 .left)) }
+    let z = c .if1 .left in
+    record { answer = told-total tried z (free-claimed tried z); loaded = free-loaded (rw z at tried) }
 
 pub free-hand-spec : {M : Type 1} → statement M
 free-hand-spec =
