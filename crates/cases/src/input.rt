@@ -7,17 +7,23 @@ ghost use Rattle.io.specs.Counts.{Counts};
 // the most bytes up to the end of a number
 const GAP: usize = 10000;
 
-// the longest lists of scores and of bytes
+// the longest lists of scores, of bytes, and of loads or limits
 const SCORES: usize = 65;
 
 const BYTES: usize = 26000;
 
-// what is above the length of a list, and above every number
+const LOADS: usize = 401;
+
+// what is above the length of a list, above every number, and above every total, load and limit
 const SCORES_BOUND: usize = SCORES + 1;
 
 const BYTES_BOUND: usize = BYTES + 1;
 
+const LOADS_BOUND: usize = LOADS + 1;
+
 pub const BOUND: usize = 10000000000000;
+
+pub const TOTALS_BOUND: usize = 4294967296;
 
 // A list of scores, the first `len` of the buffer.
 pub struct Scores {
@@ -28,6 +34,12 @@ pub struct Scores {
 // A list of bytes, the first `len` of the buffer.
 pub struct Bytes {
     pub buffer: [u8; BYTES],
+    pub len: usize,
+}
+
+// A list of loads or limits, the first `len` of the buffer.
+pub struct Loads {
+    pub buffer: [u32; LOADS],
     pub len: usize,
 }
 
@@ -87,6 +99,39 @@ pub fn bytes_list() -> Bytes
         buffer[i] = number(256) as u8;
     }
     Bytes {
+        buffer: buffer,
+        len: len,
+    }
+}
+
+// The next list, of loads or limits.
+pub fn loads_list() -> Loads
+    ensures { λ r. ⌜ Counts (r .len) (r .buffer) ⌝ }
+{
+    let len = number(LOADS_BOUND);
+    let count = number(LOADS_BOUND);
+    let mut buffer = [0u32; LOADS];
+    for i in 0..count {
+        buffer[i] = number(TOTALS_BOUND) as u32;
+    }
+    Loads {
+        buffer: buffer,
+        len: len,
+    }
+}
+
+// A list of one load or limit over and over, which is not read. A longer one than fits is never looked at: then the streets or sites are too many.
+pub fn loads_of(each: u32, len: usize) -> Loads
+    ensures { λ r. ⌜ Counts (r .len) (r .buffer) ⌝ }
+{
+    let buffer = [each; LOADS];
+    if LOADS < len {
+        return Loads {
+            buffer: buffer,
+            len: 0,
+        };
+    }
+    Loads {
         buffer: buffer,
         len: len,
     }

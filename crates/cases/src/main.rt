@@ -3,12 +3,13 @@
 use libc::STDOUT_FILENO;
 
 mod files;
+mod hands;
 mod input;
 mod plans;
 mod say;
 
 // the last command, and the most cases
-const LAST: usize = 13;
+const LAST: usize = 15;
 
 const CASES: u64 = 10000;
 
@@ -67,8 +68,10 @@ fn one_case(case: u64, command: usize) -> bool {
         9 => plans::floor_case(),
         10 => files::write_case(),
         11 => files::read_case(),
-        12 => plans::hand_case(false),
-        _ => plans::hand_case(true),
+        12 => hands::hand_case(false, false),
+        13 => hands::hand_case(true, false),
+        14 => hands::hand_case(false, true),
+        _ => hands::hand_case(true, true),
     }
     io::write_all(STDOUT_FILENO, b"\n");
     true

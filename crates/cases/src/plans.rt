@@ -1,10 +1,7 @@
-// Cases of lists, divisions, plans, floors and hand plans.
+// Cases of lists, divisions, plans and floors.
 use crate::input;
 use crate::say;
 use planner::Answer;
-
-// what is above every claimed total
-const TOTALS_BOUND: usize = 4294967296;
 
 // Command 4: the streets, the sites; the scores; the rows; the list of sites.
 pub fn list_case() {
@@ -154,48 +151,4 @@ pub fn floor_case() {
     let rows = r.buffer;
     let r_len = r.len;
     say::answer(planner::floor(n, m, k, &scores[..s_len], &rows[..r_len]));
-}
-
-// The test of a hand plan, balanced or free.
-fn hand_of(
-    balanced: bool,
-    n: usize,
-    m: usize,
-    k: usize,
-    scores: &[u16],
-    rows: &[u8],
-    division: &[u8],
-    claimed: u32,
-) -> Answer {
-    if balanced {
-        return planner::balanced_hand(n, m, k, scores, rows, division, claimed);
-    }
-    planner::free_hand(n, m, k, scores, rows, division, claimed)
-}
-
-// Commands 12, free, and 13, balanced: the streets, the sites, the chosen; the scores; the rows; the division; the claimed total.
-pub fn hand_case(balanced: bool) {
-    let n = input::number(input::BOUND);
-    let m = input::number(input::BOUND);
-    let k = input::number(input::BOUND);
-    let s = input::scores_list();
-    let r = input::bytes_list();
-    let d = input::bytes_list();
-    let claimed = input::number(TOTALS_BOUND);
-    let scores = s.buffer;
-    let s_len = s.len;
-    let rows = r.buffer;
-    let r_len = r.len;
-    let division = d.buffer;
-    let d_len = d.len;
-    say::answer(hand_of(
-        balanced,
-        n,
-        m,
-        k,
-        &scores[..s_len],
-        &rows[..r_len],
-        &division[..d_len],
-        claimed as u32,
-    ));
 }

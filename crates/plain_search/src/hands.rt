@@ -1,8 +1,11 @@
 // What a hand-made plan of a small town is refused for, and 0 where it is right.
+use crate::loads;
 use crate::scores;
 use crate::shares;
 use drawn_towns::STREETS;
 use drawn_towns::Town;
+use drawn_towns::loads::Loads;
+ghost use Rattle.drawn_towns.specs.Sized.{Sized};
 ghost use Rattle.drawn_towns.specs.Small.{Small};
 
 // Whether some street has a site outside a range that ends with m.
@@ -51,8 +54,8 @@ fn claim_refusal(town: Town, division: [u8; STREETS], claimed: u32) -> u8
     }
 }
 
-// A free plan.
-pub fn free_refusal(town: Town, division: [u8; STREETS], claimed: u32) -> u8
+// 17 and 18 of a free plan: a street may have site 0, and at most k sites are used.
+fn free_sites(town: Town, division: [u8; STREETS]) -> u8
     requires { ⌜ Small town ⌝ }
 {
     if is_out_of_range(town, division, 0) {
@@ -61,7 +64,7 @@ pub fn free_refusal(town: Town, division: [u8; STREETS], claimed: u32) -> u8
     if town.k < sites_with(town, division, 1, STREETS) {
         return 18;
     }
-    claim_refusal(town, division, claimed)
+    0
 }
 
 // Whether exactly r sites have q + 1 streets, and exactly k - r have q.
@@ -76,18 +79,59 @@ fn is_shared(town: Town, division: [u8; STREETS]) -> bool
     sites_with(town, division, q, q) == town.k - r
 }
 
-// A balanced plan.
-pub fn balanced_refusal(town: Town, division: [u8; STREETS], claimed: u32) -> u8
+// 17 and 18 of a balanced plan: every street has a site, and the sites have the shares.
+fn balanced_sites(town: Town, division: [u8; STREETS]) -> u8
     requires { ⌜ Small town ⌝ }
 {
-    if town.n < town.k {
-        return 5;
-    }
     if is_out_of_range(town, division, 1) {
         return 17;
     }
-    if !is_shared(town, division) {
-        return 18;
+    if is_shared(town, division) { 0 } else { 18 }
+}
+
+// What a plan of one kind is refused for in its sites.
+fn sites_refusal(town: Town, balanced: bool, division: [u8; STREETS]) -> u8
+    requires { ⌜ Small town ⌝ }
+{
+    if balanced {
+        return balanced_sites(town, division);
+    }
+    free_sites(town, division)
+}
+
+// What a plan is refused for in its loads' own numbers; before that, 5 where it is balanced and its sites are more than the streets.
+fn given_refusal(town: Town, balanced: bool, loads: Loads) -> u8
+    requires { ⌜ Small town × Sized loads ⌝ }
+{
+    if balanced {
+        if town.n < town.k {
+            return 5;
+        }
+    }
+    loads::numbers_refusal(town, loads)
+}
+
+// A plan, balanced or free, with its loads.
+pub fn refusal(
+    town: Town,
+    balanced: bool,
+    division: [u8; STREETS],
+    claimed: u32,
+    loads: Loads,
+) -> u8
+    requires { ⌜ Small town × Sized loads ⌝ }
+{
+    let x = given_refusal(town, balanced, loads);
+    if x != 0 {
+        return x;
+    }
+    let x = sites_refusal(town, balanced, division);
+    if x != 0 {
+        return x;
+    }
+    let x = loads::limits_refusal(town, division, loads);
+    if x != 0 {
+        return x;
     }
     claim_refusal(town, division, claimed)
 }

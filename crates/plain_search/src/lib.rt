@@ -2,6 +2,7 @@
 pub mod divisions;
 pub mod floors;
 pub mod hands;
+pub mod loads;
 pub mod rounds;
 pub mod scores;
 pub mod sets;

@@ -5,7 +5,10 @@ use crate::answers::UNTOUCHED;
 use drawn_towns::SITES;
 use drawn_towns::STREETS;
 use drawn_towns::Town;
+use drawn_towns::loads::Loads;
 use planner::Answer;
+ghost use Prim.Native.Nat.{_≤_};
+ghost use Rattle.drawn_towns.specs.Sized.{Sized};
 ghost use Rattle.drawn_towns.specs.Small.{Small};
 
 // A division over a list, balanced or free.
@@ -123,5 +126,129 @@ pub fn floor(town: Town) -> Given
     let scores = town.scores;
     let rows = town.rows;
     let answer = floored(town.n, m, town.k, &scores[..m], &rows[..len]);
+    answers::told_alone(answer)
+}
+
+// The test of a hand plan with its loads, balanced or free.
+fn tested(
+    balanced: bool,
+    n: usize,
+    m: usize,
+    k: usize,
+    scores: &[u16],
+    rows: &[u8],
+    division: &[u8],
+    claimed: u32,
+    kilograms: &[u32],
+    litres: &[u32],
+    kilogram_limits: &[u32],
+    litre_limits: &[u32],
+) -> Answer {
+    if balanced {
+        return planner::balanced_hand(
+            n,
+            m,
+            k,
+            scores,
+            rows,
+            division,
+            claimed,
+            kilograms,
+            litres,
+            kilogram_limits,
+            litre_limits,
+        );
+    }
+    planner::free_hand(
+        n,
+        m,
+        k,
+        scores,
+        rows,
+        division,
+        claimed,
+        kilograms,
+        litres,
+        kilogram_limits,
+        litre_limits,
+    )
+}
+
+// How many entries of a buffer are lent: all of them, or one fewer.
+fn lent(len: usize, is_short: bool) -> usize
+    ensures { λ r. ⌜ r ≤ len ⌝ }
+{
+    if is_short {
+        if 0 < len {
+            return len - 1;
+        }
+    }
+    len
+}
+
+// The test of a hand plan of a small town, whose loads' buffers are lent here.
+fn tested_with(
+    balanced: bool,
+    n: usize,
+    m: usize,
+    k: usize,
+    scores: &[u16],
+    rows: &[u8],
+    division: &[u8],
+    claimed: u32,
+    loads: Loads,
+) -> Answer
+    requires { ⌜ (n ≤ 8) × (m ≤ 5) × Sized loads ⌝ }
+{
+    let kilograms = loads.kilograms.streets;
+    let litres = loads.litres.streets;
+    let kilogram_limits = loads.kilograms.limits;
+    let litre_limits = loads.litres.limits;
+    let a = lent(n, loads.short == 1);
+    let b = lent(n, loads.short == 2);
+    let c = lent(m, loads.short == 3);
+    let d = lent(m, loads.short == 4);
+    tested(
+        balanced,
+        n,
+        m,
+        k,
+        scores,
+        rows,
+        division,
+        claimed,
+        &kilograms[..a],
+        &litres[..b],
+        &kilogram_limits[..c],
+        &litre_limits[..d],
+    )
+}
+
+// The test of a town's plan with its loads.
+pub fn hand(
+    town: Town,
+    balanced: bool,
+    division: [u8; STREETS],
+    claimed: u32,
+    loads: Loads,
+) -> Given
+    requires { ⌜ Small town × Sized loads ⌝ }
+{
+    let n = town.n;
+    let m = town.m;
+    let len = town.len;
+    let scores = town.scores;
+    let rows = town.rows;
+    let answer = tested_with(
+        balanced,
+        n,
+        m,
+        town.k,
+        &scores[..m],
+        &rows[..len],
+        &division[..n],
+        claimed,
+        loads,
+    );
     answers::told_alone(answer)
 }

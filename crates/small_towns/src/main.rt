@@ -1,6 +1,7 @@
 // Draws small towns, compares what every entry of the library answers for each with what a plain search finds, and prints how much was tried
 // and how many answers were different. The first of these are printed in full.
 use drawn_towns::Town;
+use loads::NUMBERS;
 use sizes::Sizes;
 ghost use mathlib.Core.Path.{_≡_};
 ghost use Prim.Native.Nat.{_+_, _≤_};
@@ -13,6 +14,7 @@ mod entries;
 mod files;
 mod free;
 mod hands;
+mod loads;
 mod rows;
 mod say;
 mod sizes;
@@ -24,7 +26,7 @@ const TOWNS: u64 = 3000;
 const SHOWN: u64 = 3;
 
 // how many answers are compared for each number of sites to choose, and for each row
-const ANSWERS: u64 = 32;
+const ANSWERS: u64 = 60;
 
 const ROW_ANSWERS: u64 = 8;
 
@@ -51,12 +53,12 @@ fn wrong_plans(town: Town, shown: bool) -> u64
 }
 
 // How many answers about hand-made plans, and about damaged surveys and files of the town are wrong.
-fn wrong_others(seed: &mut u64, town: Town, shown: bool) -> u64
+fn wrong_others(seed: &mut u64, numbers: &mut [u64; NUMBERS], town: Town, shown: bool) -> u64
     requires { ⌜ Small town ⌝ }
-    ensures { λ r. ⌜ r ≤ 24 ⌝ }
+    ensures { λ r. ⌜ r ≤ 52 ⌝ }
 {
-    let mut count = hands::wrong_hands(seed, town, false, shown);
-    count = count + hands::wrong_hands(seed, town, true, shown);
+    let mut count = hands::wrong_hands(seed, numbers, town, false, shown);
+    count = count + hands::wrong_hands(seed, numbers, town, true, shown);
     count = count + surveys::wrong_scores(seed, town, shown);
     count = count + surveys::wrong_rows(seed, town, shown);
     count + files::wrong_files(seed, town, shown)
@@ -64,41 +66,41 @@ fn wrong_others(seed: &mut u64, town: Town, shown: bool) -> u64
 
 impl Counts {
     // The counts with one number of sites to choose more.
-    fn with_choice(mut self, seed: &mut u64, town: Town) -> Self
+    fn with_choice(mut self, seed: &mut u64, numbers: &mut [u64; NUMBERS], town: Town) -> Self
         requires { ⌜ Small town × Counted (self .sizes) × (self .sizes .choices ≤ 1000000) ⌝ }
-        requires { ⌜ (self .compared ≤ 1000000) × (self .differences ≤ 1000000) ⌝ }
+        requires { ⌜ (self .compared ≤ 2000000) × (self .differences ≤ 2000000) ⌝ }
         ensures { λ r. ⌜ Counted (r .sizes) × (r .sizes .choices ≡ self .sizes .choices + 1) ⌝ }
-        ensures counts { λ r. ⌜ (r .compared ≤ self .compared + 32) × (r .differences ≤ self .differences + 32) ⌝ }
+        ensures counts { λ r. ⌜ (r .compared ≤ self .compared + 60) × (r .differences ≤ self .differences + 60) ⌝ }
     {
         let shown = self.differences < SHOWN;
         let sizes = self.sizes;
         self.differences = self.differences + wrong_plans(town, shown);
-        self.differences = self.differences + wrong_others(seed, town, shown);
+        self.differences = self.differences + wrong_others(seed, numbers, town, shown);
         self.compared = self.compared + ANSWERS;
         self.sizes = sizes.with_choice(town);
         self
     }
 
     // The counts with one town more, and every number of sites to choose.
-    fn with_town(mut self, seed: &mut u64, town: Town) -> Self
+    fn with_town(mut self, seed: &mut u64, numbers: &mut [u64; NUMBERS], town: Town) -> Self
         requires { ⌜ Small town × Counted (self .sizes) × (self .sizes .choices ≤ 100000) ⌝ }
-        requires { ⌜ (self .compared ≤ 900000) × (self .differences ≤ 900000) ⌝ }
+        requires { ⌜ (self .compared ≤ 1900000) × (self .differences ≤ 1900000) ⌝ }
         ensures { λ r. ⌜ Counted (r .sizes) × (r .sizes .choices ≤ self .sizes .choices + 5) ⌝ }
-        ensures counts { λ r. ⌜ (r .compared ≤ self .compared + 224) × (r .differences ≤ self .differences + 224) ⌝ }
+        ensures counts { λ r. ⌜ (r .compared ≤ self .compared + 364) × (r .differences ≤ self .differences + 364) ⌝ }
     {
         let shown = self.differences < SHOWN;
         self.differences = self.differences + rows::wrong_rows(town, shown);
         self.compared = self.compared + ROW_ANSWERS * town.n as u64;
         let sites = town.sites;
         for i in 0..town.m {
-            self = self.with_choice(seed, drawn_towns::listing(town, sites, i + 1));
+            self = self.with_choice(seed, numbers, drawn_towns::listing(town, sites, i + 1));
         }
         self
     }
 }
 
-// All towns.
-fn run() -> Counts {
+// All towns; the numbers of the hand plans with loads are counted.
+fn run(numbers: &mut [u64; NUMBERS]) -> Counts {
     let mut seed: u64 = 1;
     let mut counts = Counts {
         sizes: Sizes::none(),
@@ -107,17 +109,19 @@ fn run() -> Counts {
     };
     for i in 0..TOWNS {
         let town = drawn_towns::draw_town(&mut seed);
-        counts = counts.with_town(&mut seed, town);
+        counts = counts.with_town(&mut seed, numbers, town);
     }
     counts
 }
 
 // Runs all towns and prints the counts.
 fn main() {
-    let counts = run();
+    let mut numbers = [0u64; NUMBERS];
+    let counts = run(&mut numbers);
     let sizes = counts.sizes;
     say::line(b"towns ", TOWNS);
     sizes.lines();
+    loads::lines(numbers);
     say::line(b"answers compared ", counts.compared);
     say::line(b"differences ", counts.differences);
 }

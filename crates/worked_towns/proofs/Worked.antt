@@ -21,7 +21,8 @@ use Rattle.balanced_plan.specs.Rounds.{ordered, rounds}
 use Rattle.survey_file.specs.Encode.{encode}
 use Rattle.survey_file.specs.Decode.{past, fileRefusal}
 use Rattle.worked_towns.specs.Lines.{Line, FreePlan, BalancedPlan, Fact, Number, Bytes, AtMost, Says, AllSay, Holds, AllHold, same, test, tests, facts, testLines, blank}
-use Rattle.worked_towns.specs.Table.{table, p3}
+use Rattle.worked_towns.specs.Towns.{p3}
+use Rattle.worked_towns.specs.Table.{table}
 
 -- the one fact about all lines, as the checker computes it
 all-pass : testLines table ≡ true

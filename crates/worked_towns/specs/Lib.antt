@@ -1,2 +1,4 @@
 pub mod Lines
+pub mod Towns
+pub mod Loaded
 pub mod Table

@@ -13,6 +13,7 @@ use Rattle.survey.specs.Town.{Town, townOf}
 use Rattle.survey.specs.Rows.{scoreOf}
 use Rattle.survey_file.specs.Encode.{encode}
 use Rattle.survey_file.specs.Decode.{fileRefusal, townIn, chosenIn, kindIn}
+use Rattle.loads.specs.Loads.{Loads, loadsOf, mostLoad}
 use Rattle.refusals.specs.Inputs.{SurveyInput, surveyOf, rowInputOf, listInputOf, divisionOf, planOf, handOf, writeOf}
 use Rattle.refusals.specs.Refusals.{checkRefusal, rowScoreRefusal, listTotalRefusal, freeDivisionRefusal, balancedDivisionRefusal, freePlanRefusal}
 use Rattle.refusals.specs.Refusals.{balancedPlanRefusal, floorRefusal, freeHandRefusal, balancedHandRefusal, writeRefusal}
@@ -38,6 +39,9 @@ pub data Line : Type 0 where
   Places : ℕ → ℕ → List ℕ → Line
   FreeHand : SurveyInput → List ℕ → ℕ → ℕ → Line
   BalancedHand : SurveyInput → List ℕ → ℕ → ℕ → Line
+  -- hand plans with loads: survey, division, claimed total, loads
+  FreeLoaded : SurveyInput → List ℕ → ℕ → Loads → ℕ → Line
+  BalancedLoaded : SurveyInput → List ℕ → ℕ → Loads → ℕ → Line
   -- the free plan's bound against a list of K sites: K ^ K * (T - S) ≤ (K - 1) ^ K * T, where T - S and T are as given
   Bound : SurveyInput → List ℕ → ℕ → ℕ → Line
   -- a survey with its kind, and its file
@@ -54,6 +58,17 @@ pub data Fact : Type 0 where
 -- what the lent buffers hold before the call
 abbrev pub blank : ℕ → List ℕ
 blank n = replicate n 99
+
+-- the loads of a plan that has none: its streets bring nothing, and every limit is the greatest one
+abbrev pub unloaded : Town → Loads
+unloaded t = loadsOf (replicate (t .n) 0) (replicate (t .n) 0) (replicate (t .m) mostLoad) (replicate (t .m) mostLoad)
+
+-- the numbers of a free and of a balanced hand plan
+abbrev pub freeHand : SurveyInput → List ℕ → ℕ → Loads → ℕ
+freeHand i division claimed loads = freeHandRefusal (handOf (i .town) (i .k) division claimed loads)
+
+abbrev pub balancedHand : SurveyInput → List ℕ → ℕ → Loads → ℕ
+balancedHand i division claimed loads = balancedHandRefusal (handOf (i .town) (i .k) division claimed loads)
 
 -- a call's number, and the total that comes with it
 abbrev pub reported : ℕ → ℕ → ℕ → ℕ → List Fact → List Fact
@@ -93,8 +108,10 @@ facts (Rounds i total division) =
     Number (planTotal (i .town) d) total ∷ Bytes d division ∷ []
 facts (Floor i x total) = reported (floorRefusal i) x (planFloor (i .town) (i .k)) total []
 facts (Places m k list) = places m k 0 list
-facts (FreeHand i division claimed x) = Number (freeHandRefusal (handOf (i .town) (i .k) division claimed)) x ∷ []
-facts (BalancedHand i division claimed x) = Number (balancedHandRefusal (handOf (i .town) (i .k) division claimed)) x ∷ []
+facts (FreeHand i division claimed x) = Number (freeHand i division claimed (unloaded (i .town))) x ∷ []
+facts (BalancedHand i division claimed x) = Number (balancedHand i division claimed (unloaded (i .town))) x ∷ []
+facts (FreeLoaded i division claimed loads x) = Number (freeHand i division claimed loads) x ∷ []
+facts (BalancedLoaded i division claimed loads x) = Number (balancedHand i division claimed loads) x ∷ []
 facts (Bound i other missing reached) =
     let k : ℕ = i .k in
     let t : ℕ = listTotal (i .town) other in

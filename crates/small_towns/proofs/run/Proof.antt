@@ -1,15 +1,16 @@
 -- `small_towns::run` meets its contract. Assumes nothing.
+use borrow.Author.Needs.{needs}
 use Prim.Native.Nat.{_≤_, _*_, _-_}
 use Rattle.small_towns.specs.Counted.{Counted}
-use borrow.Author.Needs.{needs}
 use Rattle.small_towns.proofs.run.Statement.{statement}
 use Rattle.small_towns.proofs.run.Tie as tie
 
 abbrev Inv-loop : tie.InvT-loop
-Inv-loop seed₀ counts₀ i₀ seed counts i = (i ≤ 3000) × Counted (counts .sizes) × (counts .sizes .choices ≤ 5 * i) × (counts .compared ≤ 224 * i) × (counts .differences ≤ 224 * i)
+Inv-loop numbers₀ seed₀ counts₀ i₀ numbers seed counts i =
+    (i ≤ 3000) × Counted (counts .sizes) × (counts .sizes .choices ≤ 5 * i) × (counts .compared ≤ 364 * i) × (counts .differences ≤ 364 * i)
 
 abbrev μ-loop : tie.MeasureT-loop
-μ-loop seed₀ counts₀ i₀ seed counts i = 3000 - i
+μ-loop numbers₀ seed₀ counts₀ i₀ numbers seed counts i = 3000 - i
 
 pub run-spec : {M : Type 1} → statement M
 run-spec =

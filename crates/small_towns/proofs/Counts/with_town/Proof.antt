@@ -1,18 +1,18 @@
 -- `small_towns::Counts::with_town` meets its contract. Assumes nothing.
+use borrow.Author.Needs.{needs}
 use Prim.Native.Nat.{_≤_, _+_, _*_, _-_}
 use mathlib.Core.Path.{_≡_}
 use Rattle.small_towns.specs.Counted.{Counted}
-use borrow.Author.Needs.{needs}
 use Rattle.small_towns.proofs.Counts.with_town.Statement.{statement}
 use Rattle.small_towns.proofs.Counts.with_town.Tie as tie
 
 abbrev Inv-loop : tie.InvT-loop
-Inv-loop self₀ seed₀ town shown sites i₀ i-end self seed i =
+Inv-loop self₀ seed₀ numbers₀ town shown sites i₀ i-end self seed numbers i =
     (i ≤ i-end) × (i-end ≡ town .m) × Counted (self .sizes) × (self .sizes .choices ≡ self₀ .sizes .choices + i)
-    × (self .compared ≤ self₀ .compared + 32 * i) × (self .differences ≤ self₀ .differences + 32 * i)
+    × (self .compared ≤ self₀ .compared + 60 * i) × (self .differences ≤ self₀ .differences + 60 * i)
 
 abbrev μ-loop : tie.MeasureT-loop
-μ-loop self₀ seed₀ town shown sites i₀ i-end self seed i = i-end - i
+μ-loop self₀ seed₀ numbers₀ town shown sites i₀ i-end self seed numbers i = i-end - i
 
 pub with-town-spec : {M : Type 1} → statement M
 with-town-spec =
