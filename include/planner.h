@@ -17,6 +17,13 @@
  * site, and one more to each of the first n % k. In a plan these are the sites chosen first. Over a list of sites they are the
  * list's first entries, so that the order of the list counts.
  *
+ * LOADS. The tests of hand-made plans are also given what each street brings in a week, and how much of it each site can take.
+ *   kilograms, litres              n numbers of 32 bits each, those of street 1 first: what the street brings
+ *   kilogram_limits, litre_limits  m numbers of 32 bits each, those of site 1 first: the limits of the site
+ *   Every number is 0 to 1,000,000. A site's kilograms are the sum over the streets that go to it, and so are its litres; a sum
+ *   equal to its limit fits. An unserved street loads no site, but its numbers are tried like the others. A caller without loads
+ *   lends zeros for the streets and PLANNER_MOST_LOAD for each site.
+ *
  * PARAMETERS stand in one order everywhere: sizes (n, m, k, kind), scores, rows, what the call is about, what it fills. Only the
  * reader, which fills all of them, has its file in front. Any numbers may be passed: what is wrong with them is refused.
  *
@@ -29,8 +36,8 @@
  * planner_total(answer), 0 where it is refused. A refused call leaves every buffer and every number it was lent as it was.
  *
  * REFUSALS. A call tries those numbers that concern what it is given, in this order: 1 to 6, then 8 over the scores, then the
- * rows by street and byte, where a byte is tried for 9, 10, 11; then 17, 20, 18, 19, and 7 last. The reader's order stands there.
- * Where a call is given a list of sites, 3 and 5 are about the list's length.
+ * rows by street and byte, where a byte is tried for 9, 10, 11; then 21, 17, 20, 18, then site by site 22 before 23, then 19, and
+ * 7 last. The reader's order stands there. Where a call is given a list of sites, 3 and 5 are about the list's length.
  *
  * A call uses no heap and keeps nothing from one call to the next: any number of threads may call at once. The stack that it needs
  * is named below, call by call.
@@ -46,12 +53,13 @@ extern "C" {
 #endif
 
 /* The year and the number of the last request that is in, 00 for the base. planner_version() gives that of the library linked. */
-#define PLANNER_VERSION 202601
+#define PLANNER_VERSION 202602
 
-/* The greatest sizes and score. */
+/* The greatest sizes and score, and the greatest load of a street, which is also the greatest limit of a site. */
 #define PLANNER_MAX_STREETS 400
 #define PLANNER_MAX_SITES 64
 #define PLANNER_TOP_SCORE 1000
+#define PLANNER_MOST_LOAD 1000000
 
 /* The lengths of the buffers that hold every survey and every file, in elements; the reader's have exactly these. */
 #define PLANNER_SCORES_LENGTH 64
@@ -77,7 +85,7 @@ extern "C" {
 #define PLANNER_STACK_FREE_PLAN 61440
 #define PLANNER_STACK_BALANCED_PLAN 296448
 #define PLANNER_STACK_FLOOR 3072
-#define PLANNER_STACK_FREE_HAND 3072
+#define PLANNER_STACK_FREE_HAND 5120
 #define PLANNER_STACK_BALANCED_HAND 5120
 #define PLANNER_STACK_WRITE_FILE 3072
 #define PLANNER_STACK_READ_FILE 1024
@@ -115,7 +123,11 @@ extern "C" {
     REFUSAL(18, SITES_USED, "a free hand plan of more than K sites; a balanced one of other than K, or with shares over one street apart: move streets") \
     REFUSAL(19, CLAIMED_TOTAL, "a claimed total that is not the plan's: add it up again") \
     /* the sender of a list */ \
-    REFUSAL(20, LISTED_TWICE, "a site listed twice: strike one of the two")
+    REFUSAL(20, LISTED_TWICE, "a site listed twice: strike one of the two") \
+    /* the sender of a hand plan */ \
+    REFUSAL(21, LOAD, "a load or limit above 1,000,000: correct the number") \
+    REFUSAL(22, KILOGRAMS, "a site with more kilograms than its limit: move streets") \
+    REFUSAL(23, LITRES, "a site with more litres than its limit: move streets")
 
 /* PLANNER_REFUSED_STREETS is 1, and so on. */
 enum planner_refusal_number {
@@ -125,7 +137,7 @@ enum planner_refusal_number {
 #undef PLANNER_NUMBERED
 };
 
-/* The refusal's number, 1 to 20; 0 where the call is accepted. */
+/* The refusal's number, 1 to 23; 0 where the call is accepted. */
 static inline uint32_t planner_refusal(uint64_t answer) {
     uint64_t upper = answer >> 32;
     return upper & 0xffffffffu;
@@ -276,31 +288,44 @@ uint64_t planner_floor(size_t n, size_t m, size_t k,
                        const uint8_t *rows, size_t rows_len) PLANNER_MUST_USE;
 
 /*
- * Tests a hand-made free plan: at most k sites are used, and its streets give them the claimed total.
+ * Tests a hand-made free plan: at most k sites are used, no site is above its limits, and the streets give their sites the
+ * claimed total.
  *   scores    m numbers, read      rows  n * m bytes, read
  *   division  n bytes, read: the site of each street, 0 for none
  *   claimed   the total that is claimed for the plan
- * Answer: the plan's total, which the claimed one then is. Refuses with 1, 2, 3, 6, 8, 9, 10, 11, 17, 18 or 19.
+ *   kilograms, litres              n numbers each, read: what each street brings in a week
+ *   kilogram_limits, litre_limits  m numbers each, read: how much of it each site can take
+ * Answer: the plan's total, which the claimed one then is. Refuses with 1, 2, 3, 6, 8, 9, 10, 11, 21, 17, 18, 22, 23 or 19.
  */
 uint64_t planner_free_hand(size_t n, size_t m, size_t k,
                            const uint16_t *scores, size_t scores_len,
                            const uint8_t *rows, size_t rows_len,
                            const uint8_t *division, size_t division_len,
-                           uint32_t claimed) PLANNER_MUST_USE;
+                           uint32_t claimed,
+                           const uint32_t *kilograms, size_t kilograms_len,
+                           const uint32_t *litres, size_t litres_len,
+                           const uint32_t *kilogram_limits, size_t kilogram_limits_len,
+                           const uint32_t *litre_limits, size_t litre_limits_len) PLANNER_MUST_USE;
 
 /*
  * Tests a hand-made balanced plan: exactly n % k sites, whichever they are, have n / k + 1 streets, exactly k - n % k have n / k,
- * and the streets give them the claimed total.
+ * no site is above its limits, and the streets give their sites the claimed total.
  *   scores    m numbers, read      rows  n * m bytes, read
  *   division  n bytes, read: the site of each street
  *   claimed   the total that is claimed for the plan
- * Answer: the plan's total, which the claimed one then is. Refuses with 1, 2, 3, 5, 6, 8, 9, 10, 11, 17, 18 or 19.
+ *   kilograms, litres              n numbers each, read: what each street brings in a week
+ *   kilogram_limits, litre_limits  m numbers each, read: how much of it each site can take
+ * Answer: the plan's total, which the claimed one then is. Refuses with 1, 2, 3, 5, 6, 8, 9, 10, 11, 21, 17, 18, 22, 23 or 19.
  */
 uint64_t planner_balanced_hand(size_t n, size_t m, size_t k,
                                const uint16_t *scores, size_t scores_len,
                                const uint8_t *rows, size_t rows_len,
                                const uint8_t *division, size_t division_len,
-                               uint32_t claimed) PLANNER_MUST_USE;
+                               uint32_t claimed,
+                               const uint32_t *kilograms, size_t kilograms_len,
+                               const uint32_t *litres, size_t litres_len,
+                               const uint32_t *kilogram_limits, size_t kilogram_limits_len,
+                               const uint32_t *litre_limits, size_t litre_limits_len) PLANNER_MUST_USE;
 
 /*
  * Writes a survey file.

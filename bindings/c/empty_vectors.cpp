@@ -15,12 +15,14 @@ static void expect(bool holds, const char *what) {
 
 typedef std::vector<uint8_t> Bytes;
 typedef std::vector<uint16_t> Scores;
+typedef std::vector<uint32_t> Loads;
 
 // One street, one site.
 static const Scores scores(1, 5);
 static const Bytes rows(1, 1), sites(1, 1);
 static const Scores no_scores;
 static const Bytes none;
+static const Loads loads(1, 5), no_loads;
 
 static void plans() {
     Bytes division(1), chosen(1), empty;
@@ -33,6 +35,17 @@ static void plans() {
     answer = planner_balanced_division(1, 1, scores.data(), scores.size(), rows.data(), rows.size(), none.data(), none.size(),
                                        division.data(), division.size());
     expect(planner_refusal(answer) == PLANNER_REFUSED_CHOSEN, "a division over no sites");
+}
+
+static void hand_plans() {
+    uint64_t answer = planner_free_hand(1, 1, 1, scores.data(), scores.size(), rows.data(), rows.size(), sites.data(), sites.size(), 5,
+                                        loads.data(), loads.size(), loads.data(), loads.size(), loads.data(), loads.size(),
+                                        loads.data(), loads.size());
+    expect(planner_refusal(answer) == PLANNER_ACCEPTED && planner_total(answer) == 5, "a hand plan with loads equal to their limits");
+    answer = planner_balanced_hand(1, 1, 1, scores.data(), scores.size(), rows.data(), rows.size(), sites.data(), sites.size(), 5,
+                                   no_loads.data(), no_loads.size(), no_loads.data(), no_loads.size(), no_loads.data(), no_loads.size(),
+                                   no_loads.data(), no_loads.size());
+    expect(planner_refusal(answer) == PLANNER_REFUSED_BUFFER_LENGTH, "a hand plan without loads");
 }
 
 static void numbers() {
@@ -57,6 +70,7 @@ static void files() {
 
 int main() {
     plans();
+    hand_plans();
     numbers();
     files();
     return differences;

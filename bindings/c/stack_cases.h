@@ -13,9 +13,12 @@ static uint8_t rows[PLANNER_ROWS_LENGTH + 1], row[PLANNER_MAX_SITES + 1];
 static uint8_t sites[PLANNER_MAX_SITES + 1], site;
 static uint8_t hand[PLANNER_MAX_STREETS + 1];
 static uint32_t claimed;
+static uint32_t kilograms[PLANNER_MAX_STREETS + 1], litres[PLANNER_MAX_STREETS + 1];
+static uint32_t kilogram_limits[PLANNER_MAX_SITES + 1], litre_limits[PLANNER_MAX_SITES + 1];
 static uint8_t division[PLANNER_MAX_STREETS + 1], chosen[PLANNER_MAX_SITES + 1];
 static uint8_t file[PLANNER_FILE_LENGTH + 1], written[PLANNER_FILE_LENGTH];
 static size_t scores_len, rows_len, row_len, sites_len, division_len, chosen_len, file_len, written_len;
+static size_t kilograms_len, litres_len, kilogram_limits_len, litre_limits_len;
 
 /* What the reader fills. */
 static size_t read_n, read_m, read_k, read_kind, read_scores_len, read_rows_len;
@@ -62,11 +65,13 @@ static void run_floor(void) {
 }
 
 static void run_free_hand(void) {
-    answer = planner_free_hand(n, m, k, scores, scores_len, rows, rows_len, hand, division_len, claimed);
+    answer = planner_free_hand(n, m, k, scores, scores_len, rows, rows_len, hand, division_len, claimed, kilograms, kilograms_len,
+                               litres, litres_len, kilogram_limits, kilogram_limits_len, litre_limits, litre_limits_len);
 }
 
 static void run_balanced_hand(void) {
-    answer = planner_balanced_hand(n, m, k, scores, scores_len, rows, rows_len, hand, division_len, claimed);
+    answer = planner_balanced_hand(n, m, k, scores, scores_len, rows, rows_len, hand, division_len, claimed, kilograms, kilograms_len,
+                                   litres, litres_len, kilogram_limits, kilogram_limits_len, litre_limits, litre_limits_len);
 }
 
 static void run_write_file(void) {
@@ -77,15 +82,17 @@ static void run_read_file(void) {
     answer = planner_read_file(file, file_len, &read_n, &read_m, &read_k, &read_kind, read_scores, read_scores_len, read_rows, read_rows_len);
 }
 
-/* A set of refusals, by their numbers, and two members more for the buffers of some calls. */
+/* A set of refusals, by their numbers, and three members more for the buffers of some calls. */
 #define NUMBER(number) (UINT64_C(1) << (number))
+#define LENT_LOADS NUMBER(61)
 #define LENT_DIVISION NUMBER(62)
 #define LENT_CHOSEN NUMBER(63)
 #define ROW (NUMBER(2) | NUMBER(6) | NUMBER(8) | NUMBER(9) | NUMBER(10) | NUMBER(11))
 #define SURVEY (ROW | NUMBER(1) | NUMBER(3))
 #define LIST (SURVEY | NUMBER(17) | NUMBER(20))
 #define PLAN (SURVEY | LENT_DIVISION | LENT_CHOSEN)
-#define HAND (SURVEY | LENT_DIVISION | NUMBER(17) | NUMBER(18) | NUMBER(19))
+#define LOADS (LENT_LOADS | NUMBER(21) | NUMBER(22) | NUMBER(23))
+#define HAND (SURVEY | LENT_DIVISION | LOADS | NUMBER(17) | NUMBER(18) | NUMBER(19))
 #define FILE_RECORDS (NUMBER(12) | NUMBER(13) | NUMBER(14) | NUMBER(15) | NUMBER(16))
 
 static const struct call {
@@ -123,10 +130,23 @@ static uint8_t listed(enum lists lists, size_t street, size_t place) {
 
 static void set_lengths(void) {
     scores_len = m, rows_len = n * m, row_len = m, sites_len = k, division_len = n, chosen_len = k;
+    kilograms_len = litres_len = n, kilogram_limits_len = litre_limits_len = m;
     read_scores_len = PLANNER_SCORES_LENGTH, read_rows_len = PLANNER_ROWS_LENGTH;
 }
 
-/* Makes a town and what goes with it: a list of sites, a hand plan with its total, and the survey file. */
+/* Gives the streets of the hand plan loads, and each site the limits that these just reach. */
+static void make_loads(void) {
+    memset(kilogram_limits, 0, sizeof kilogram_limits);
+    memset(litre_limits, 0, sizeof litre_limits);
+    for (size_t street = 0; street < n; street++) {
+        kilograms[street] = (uint32_t)street + 1;
+        litres[street] = PLANNER_MOST_LOAD / PLANNER_MAX_STREETS;
+        kilogram_limits[hand[street] - 1] += kilograms[street];
+        litre_limits[hand[street] - 1] += litres[street];
+    }
+}
+
+/* Makes a town and what goes with it: a list of sites, a hand plan with its total and loads, and the survey file. */
 static void make_town(size_t streets, size_t all, size_t choose, enum lists lists) {
     n = streets, m = all, k = choose, kind = PLANNER_BALANCED;
     set_lengths();
@@ -142,6 +162,7 @@ static void make_town(size_t streets, size_t all, size_t choose, enum lists list
             claimed += named == hand[street] ? scores[place] : 0;
         }
     }
+    make_loads();
     memcpy(row, rows + (n - 1) * m, m);
     for (size_t i = 0; i < k; i++) {
         sites[i] = (uint8_t)(i + 1);

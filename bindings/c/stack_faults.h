@@ -42,7 +42,7 @@ static void unknown_kind(void) {
 }
 
 static void streets_too_few(void) {
-    n = division_len = 49, rows_len = n * m;
+    n = division_len = kilograms_len = litres_len = 49, rows_len = n * m;
 }
 
 static void scores_short(void) {
@@ -59,6 +59,22 @@ static void division_long(void) {
 
 static void chosen_long(void) {
     chosen_len++;
+}
+
+static void kilograms_short(void) {
+    kilograms_len--;
+}
+
+static void litres_short(void) {
+    litres_len--;
+}
+
+static void kilogram_limits_short(void) {
+    kilogram_limits_len--;
+}
+
+static void litre_limits_short(void) {
+    litre_limits_len--;
 }
 
 static void written_short(void) {
@@ -135,6 +151,22 @@ static void last_listed_twice(void) {
     sites[k - 1] = sites[0];
 }
 
+static void first_load_high(void) {
+    kilograms[0] = PLANNER_MOST_LOAD + 1;
+}
+
+static void last_limit_high(void) {
+    litre_limits[m - 1] = PLANNER_MOST_LOAD + 1;
+}
+
+static void last_kilograms_over(void) {
+    kilogram_limits[k - 1]--;
+}
+
+static void last_litres_over(void) {
+    litre_limits[k - 1]--;
+}
+
 /* A call meets a fault if `concerns` is a member of what it refuses. */
 static const struct fault {
     const char *name;
@@ -153,6 +185,10 @@ static const struct fault {
     {"one score less", 6, NUMBER(6), scores_short},
     {"one byte of rows less", 6, NUMBER(6), rows_short},
     {"a division of 401", 6, LENT_DIVISION, division_long},
+    {"kilograms of 399 streets", 6, LENT_LOADS, kilograms_short},
+    {"litres of 399 streets", 6, LENT_LOADS, litres_short},
+    {"kilogram limits of 63 sites", 6, LENT_LOADS, kilogram_limits_short},
+    {"litre limits of 63 sites", 6, LENT_LOADS, litre_limits_short},
     {"51 chosen sites", 6, LENT_CHOSEN, chosen_long},
     {"a file buffer one byte short", 7, NUMBER(7), written_short},
     {"first score above 1,000", 8, NUMBER(8), first_score_high},
@@ -172,5 +208,9 @@ static const struct fault {
     {"a hand plan of 51 sites", 18, NUMBER(18), one_site_more},
     {"claimed total one more", 19, NUMBER(19), claimed_more},
     {"last of the list like the first", 20, NUMBER(20), last_listed_twice},
+    {"first load above 1,000,000", 21, NUMBER(21), first_load_high},
+    {"last limit above 1,000,000", 21, NUMBER(21), last_limit_high},
+    {"a kilogram too many at the last site used", 22, NUMBER(22), last_kilograms_over},
+    {"a litre too many at the last site used", 23, NUMBER(23), last_litres_over},
 };
 enum { FAULTS = sizeof faults / sizeof faults[0] };

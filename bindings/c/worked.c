@@ -23,6 +23,10 @@ static const uint8_t rows[12] = {1, 2, 3, 1, 3, 2, 2, 1, 0, 3, 2, 1};
 static const uint8_t plan[4] = {1, 1, 2, 2};
 static const uint8_t sites[2] = {1, 2};
 
+/* What stands for loads where there are none: the last arguments of a hand plan of this many streets over three sites. */
+static const uint32_t nothing[4] = {0}, most[3] = {PLANNER_MOST_LOAD, PLANNER_MOST_LOAD, PLANNER_MOST_LOAD};
+#define NO_LOADS(streets) nothing, streets, nothing, streets, most, 3, most, 3
+
 static void plans(void) {
     uint8_t division[4] = {0}, chosen[2] = {0};
     expect(planner_free_plan(4, 3, 2, scores, 3, rows, 12, division, 4, chosen, 2) == 7, "the free plan's total");
@@ -54,9 +58,68 @@ static void uneven_shares(void) {
     expect_division(two_first, two_larger, 7, "the balanced division with site 2 first");
     expect_division(three_first, three_larger, 7, "the balanced division with site 3 first");
     expect(planner_floor(4, 3, 3, scores, 3, rows, 12) == 5, "P7's floor");
-    expect(planner_balanced_hand(4, 3, 3, scores, 3, rows, 12, one_larger, 4, 8) == 8, "P7's plan as a hand plan");
-    expect(planner_balanced_hand(4, 3, 3, scores, 3, rows, 12, three_larger, 4, 7) == 7, "a hand plan with two streets for site 3");
-    expect_refusal(planner_balanced_hand(4, 3, 3, scores, 3, rows, 12, plan, 4, 7), 18, "a hand plan with two streets for two of three sites");
+    expect(planner_balanced_hand(4, 3, 3, scores, 3, rows, 12, one_larger, 4, 8, NO_LOADS(4)) == 8, "P7's plan as a hand plan");
+    expect(planner_balanced_hand(4, 3, 3, scores, 3, rows, 12, three_larger, 4, 7, NO_LOADS(4)) == 7, "a hand plan with two streets for site 3");
+    expect_refusal(planner_balanced_hand(4, 3, 3, scores, 3, rows, 12, plan, 4, 7, NO_LOADS(4)), 18,
+                   "a hand plan with two streets for two of three sites");
+}
+
+/* Kilograms and litres of the four streets, and the limits of the three sites. */
+struct loads {
+    uint32_t kilograms[4], litres[4], kilogram_limits[3], litre_limits[3];
+};
+
+/* Site 1 gets 11 kilograms and 5 litres, and site 2 gets 15 and 7: each sum is equal to its limit. */
+static const struct loads fitting = {{5, 6, 7, 8}, {1, 4, 3, 4}, {11, 15, 0}, {5, 7, 0}};
+
+static uint64_t free_hand(const uint8_t division[4], uint32_t claimed, const struct loads *with) {
+    return planner_free_hand(4, 3, 2, scores, 3, rows, 12, division, 4, claimed, with->kilograms, 4, with->litres, 4,
+                             with->kilogram_limits, 3, with->litre_limits, 3);
+}
+
+static uint64_t balanced_hand(const uint8_t division[4], uint32_t claimed, const struct loads *with) {
+    return planner_balanced_hand(4, 3, 2, scores, 3, rows, 12, division, 4, claimed, with->kilograms, 4, with->litres, 4,
+                                 with->kilogram_limits, 3, with->litre_limits, 3);
+}
+
+/* Both tests of the plan that claims 7. */
+static void expect_hands(const struct loads *with, uint32_t number, const char *what) {
+    uint64_t answer = number == 0 ? 7 : (uint64_t)number << 32;
+    expect(free_hand(plan, 7, with) == answer && balanced_hand(plan, 7, with) == answer, what);
+}
+
+static void limits(void) {
+    static const uint8_t three_used[4] = {1, 2, 3, 0};
+    struct loads with = fitting;
+    expect_hands(&with, 0, "sums equal to their limits");
+    with.kilogram_limits[1] = 14;
+    expect_hands(&with, PLANNER_REFUSED_KILOGRAMS, "a kilogram too many at site 2");
+    with.litre_limits[0] = 4;
+    expect_hands(&with, PLANNER_REFUSED_LITRES, "a litre too many at site 1 and a kilogram too many at site 2");
+    with.kilogram_limits[0] = 10;
+    expect_hands(&with, PLANNER_REFUSED_KILOGRAMS, "both too many at site 1");
+    with = fitting, with.litre_limits[1] = 6;
+    expect_hands(&with, PLANNER_REFUSED_LITRES, "a litre too many at site 2");
+    expect_refusal(free_hand(plan, 6, &with), 23, "a litre too many before another total");
+    expect_refusal(free_hand(plan, 6, &fitting), 19, "another total where all fits");
+    expect_refusal(free_hand(three_used, 5, &fitting), 18, "three sites before a kilogram too many at site 3");
+}
+
+static void greatest_loads(void) {
+    static const uint8_t one_unserved[4] = {1, 1, 2, 0}, outside[4] = {1, 1, 2, 4};
+    struct loads with = {{0, 0, 0, PLANNER_MOST_LOAD}, {0, 0, 0, PLANNER_MOST_LOAD}, {0, PLANNER_MOST_LOAD, 0}, {0, PLANNER_MOST_LOAD, 0}};
+    expect_hands(&with, 0, "the greatest load and limit");
+    with.kilogram_limits[1] = with.litre_limits[1] = 0;
+    expect(free_hand(one_unserved, 6, &with) == 6, "the loads of an unserved street");
+    with.kilograms[3]++;
+    expect_refusal(free_hand(one_unserved, 6, &with), PLANNER_REFUSED_LOAD, "a load above the greatest, of an unserved street");
+    with = fitting, with.litres[0] = PLANNER_MOST_LOAD + 1;
+    expect_hands(&with, 21, "litres above the greatest");
+    with = fitting, with.kilogram_limits[2] = PLANNER_MOST_LOAD + 1;
+    expect_hands(&with, 21, "a kilogram limit above the greatest, of a site without streets");
+    with = fitting, with.litre_limits[2] = UINT32_MAX;
+    expect_hands(&with, 21, "a litre limit above the greatest, of a site without streets");
+    expect_refusal(free_hand(outside, 6, &with), 21, "a limit above the greatest before a site outside");
 }
 
 /* The first two streets of the survey, and three sites: the balanced calls and the floor refuse, and no other. */
@@ -67,10 +130,10 @@ static void more_sites_than_streets(void) {
     expect_refusal(planner_balanced_division(2, 3, scores, 3, rows, 6, all, 3, division, 2), 5, "two streets divided over three sites");
     expect(division[0] == 8 && division[1] == 8 && chosen[0] == 8 && chosen[1] == 8 && chosen[2] == 8, "the buffers after 5");
     expect_refusal(planner_floor(2, 3, 3, scores, 3, rows, 6), PLANNER_REFUSED_SHARE, "the floor of two streets with K 3");
-    expect_refusal(planner_balanced_hand(2, 3, 3, scores, 3, rows, 6, hand, 2, 3), 5, "a balanced hand plan of two streets with K 3");
+    expect_refusal(planner_balanced_hand(2, 3, 3, scores, 3, rows, 6, hand, 2, 3, NO_LOADS(2)), 5, "a balanced hand plan of two streets with K 3");
     expect(planner_check_survey(2, 3, 3, scores, 3, rows, 6) == 0, "the check of two streets with K 3");
     expect(planner_free_plan(2, 3, 3, scores, 3, rows, 6, division, 2, chosen, 3) == 4, "the free plan of two streets with K 3");
-    expect(planner_free_hand(2, 3, 3, scores, 3, rows, 6, hand, 2, 3) == 3, "a free hand plan of two streets with K 3");
+    expect(planner_free_hand(2, 3, 3, scores, 3, rows, 6, hand, 2, 3, NO_LOADS(2)) == 3, "a free hand plan of two streets with K 3");
     expect(planner_write_file(2, 3, 3, PLANNER_BALANCED, scores, 3, rows, 6, file, 33) == 33, "the writing of two streets with K 3");
 }
 
@@ -80,8 +143,8 @@ static void numbers(void) {
     expect(planner_row_score(3, scores, 3, rows + 9, 3, 2) == 1, "the row's score");
     expect(planner_list_total(4, 3, scores, 3, rows, 12, sites, 2) == 7, "the list's total");
     expect(planner_floor(4, 3, 2, scores, 3, rows, 12) == 2, "the floor");
-    expect(planner_free_hand(4, 3, 2, scores, 3, rows, 12, plan, 4, 7) == 7, "the free hand plan");
-    expect(planner_balanced_hand(4, 3, 2, scores, 3, rows, 12, plan, 4, 7) == 7, "the balanced hand plan");
+    expect(planner_free_hand(4, 3, 2, scores, 3, rows, 12, plan, 4, 7, NO_LOADS(4)) == 7, "the free hand plan");
+    expect(planner_balanced_hand(4, 3, 2, scores, 3, rows, 12, plan, 4, 7, NO_LOADS(4)) == 7, "the balanced hand plan");
     expect(planner_version() == PLANNER_VERSION, "the version");
 }
 
@@ -112,12 +175,27 @@ static void null_read(void) {
 }
 
 static void null_hand_plans(void) {
-    expect_refusal(planner_free_hand(4, 3, 2, NULL, 0, rows, 12, plan, 4, 7), 6, "the free hand plan without scores");
-    expect_refusal(planner_free_hand(4, 3, 2, scores, 3, NULL, 0, plan, 4, 7), 6, "the free hand plan without rows");
-    expect_refusal(planner_free_hand(4, 3, 2, scores, 3, rows, 12, NULL, 0, 7), 6, "the free hand plan without a division");
-    expect_refusal(planner_balanced_hand(4, 3, 2, NULL, 0, rows, 12, plan, 4, 7), 6, "the balanced hand plan without scores");
-    expect_refusal(planner_balanced_hand(4, 3, 2, scores, 3, NULL, 0, plan, 4, 7), 6, "the balanced hand plan without rows");
-    expect_refusal(planner_balanced_hand(4, 3, 2, scores, 3, rows, 12, NULL, 0, 7), 6, "the balanced hand plan without a division");
+    expect_refusal(planner_free_hand(4, 3, 2, NULL, 0, rows, 12, plan, 4, 7, NO_LOADS(4)), 6, "the free hand plan without scores");
+    expect_refusal(planner_free_hand(4, 3, 2, scores, 3, NULL, 0, plan, 4, 7, NO_LOADS(4)), 6, "the free hand plan without rows");
+    expect_refusal(planner_free_hand(4, 3, 2, scores, 3, rows, 12, NULL, 0, 7, NO_LOADS(4)), 6, "the free hand plan without a division");
+    expect_refusal(planner_balanced_hand(4, 3, 2, NULL, 0, rows, 12, plan, 4, 7, NO_LOADS(4)), 6, "the balanced hand plan without scores");
+    expect_refusal(planner_balanced_hand(4, 3, 2, scores, 3, NULL, 0, plan, 4, 7, NO_LOADS(4)), 6, "the balanced hand plan without rows");
+    expect_refusal(planner_balanced_hand(4, 3, 2, scores, 3, rows, 12, NULL, 0, 7, NO_LOADS(4)), 6, "the balanced hand plan without a division");
+}
+
+/* Each buffer of loads and limits empty, and one number short. */
+static void other_lengths_of_loads(void) {
+    static const size_t lengths[8][4] = {{0, 4, 3, 3}, {4, 0, 3, 3}, {4, 4, 0, 3}, {4, 4, 3, 0},
+                                         {3, 4, 3, 3}, {4, 3, 3, 3}, {4, 4, 2, 3}, {4, 4, 3, 2}};
+    for (int i = 0; i < 8; i++) {
+        const size_t *l = lengths[i];
+        const uint32_t *kilograms = l[0] ? nothing : NULL, *litres = l[1] ? nothing : NULL;
+        const uint32_t *kilogram_limits = l[2] ? most : NULL, *litre_limits = l[3] ? most : NULL;
+        expect_refusal(planner_free_hand(4, 3, 2, scores, 3, rows, 12, plan, 4, 7, kilograms, l[0], litres, l[1], kilogram_limits, l[2],
+                                         litre_limits, l[3]), 6, "the free hand plan with too few loads or limits");
+        expect_refusal(planner_balanced_hand(4, 3, 2, scores, 3, rows, 12, plan, 4, 7, kilograms, l[0], litres, l[1], kilogram_limits, l[2],
+                                             litre_limits, l[3]), 6, "the balanced hand plan with too few loads or limits");
+    }
 }
 
 static void null_divisions(void) {
@@ -164,10 +242,10 @@ static void null_files(void) {
 static void texts(void) {
     const char *none = "no refusal has this number";
     expect(!strcmp(planner_refusal_text(PLANNER_ACCEPTED), "accepted"), "the text of 0");
-    for (uint32_t number = 1; number <= 20; number++) {
+    for (uint32_t number = 1; number <= 23; number++) {
         expect(strcmp(planner_refusal_text(number), none), "a text for each number");
     }
-    expect(!strcmp(planner_refusal_text(21), none) && !strcmp(planner_refusal_text(UINT32_MAX), none), "the text of other numbers");
+    expect(!strcmp(planner_refusal_text(24), none) && !strcmp(planner_refusal_text(UINT32_MAX), none), "the text of other numbers");
     uint64_t answer = planner_floor(0, 3, 2, scores, 3, rows, 12);
     expect(!strcmp(planner_refusal_text(planner_refusal(answer)),
                    "number of streets outside 1 to 400: plan a larger town in parts"), "the text of 1");
@@ -176,11 +254,14 @@ static void texts(void) {
 int main(void) {
     plans();
     uneven_shares();
+    limits();
+    greatest_loads();
     more_sites_than_streets();
     numbers();
     files();
     null_read();
     null_hand_plans();
+    other_lengths_of_loads();
     null_divisions();
     null_plans();
     null_files();

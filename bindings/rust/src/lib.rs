@@ -37,7 +37,8 @@
 //! # What there is
 //! - [`Survey`] is the town, checked once when it is made. It plans ([`Survey::plan`]), divides the streets over sites that are given
 //!   ([`Survey::divide`]), totals a list of sites ([`Survey::list_total`]), says what a balanced plan reaches in any case
-//!   ([`Survey::floor`]) and tests a plan that was made by hand ([`Survey::test`]).
+//!   ([`Survey::floor`]) and tests a plan that was made by hand ([`Survey::test`]), also with what the streets bring to
+//!   their sites ([`Survey::test_with_loads`], [`Loads`]).
 //! - [`SurveyFile`] is a survey with the kind of plan and the K that are wanted, as bytes that are read and written.
 //! - [`Refusal`] is what is wrong with a call: its number, whose it is, and what to do.
 //! - [`slices`] are the library's functions over slices that the caller lends, and [`raw`] the same as C sees them.
@@ -54,6 +55,7 @@
 //! [`version`] is the archive's version, which has to be the crate's [`VERSION`]: the functions of another archive may be called otherwise,
 //! and a refusal that the crate does not know is a panic.
 mod hand_plan;
+mod loads;
 mod plan;
 pub mod raw;
 mod refusal;
@@ -62,6 +64,7 @@ mod survey;
 mod survey_file;
 
 pub use hand_plan::HandPlan;
+pub use loads::Loads;
 pub use plan::{Division, Kind, Plan, Sites};
 pub use refusal::{Refusal, UnknownRefusal};
 pub use survey::Survey;
@@ -86,7 +89,7 @@ pub const ROWS_LENGTH: usize = MAX_STREETS * MAX_SITES;
 pub const FILE_LENGTH: usize = 27_739;
 
 /// The crate's version: the year, and in two digits the number of the last change request that is in.
-pub const VERSION: u32 = 202_601;
+pub const VERSION: u32 = 202_602;
 
 /// The version of the archive that is linked, which counts as [`VERSION`] does.
 ///

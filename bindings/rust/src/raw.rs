@@ -103,7 +103,7 @@ unsafe extern "C" {
     /// The floor, a total that the balanced plan reaches in any case.
     pub fn planner_floor(n: usize, m: usize, k: usize, scores: *const u16, scores_len: usize, rows: *const u8, rows_len: usize) -> u64;
 
-    /// Tests a hand-made free plan; its total.
+    /// Tests a hand-made free plan with its loads; its total.
     pub fn planner_free_hand(
         n: usize,
         m: usize,
@@ -115,9 +115,17 @@ unsafe extern "C" {
         division: *const u8,
         division_len: usize,
         claimed: u32,
+        kilograms: *const u32,
+        kilograms_len: usize,
+        litres: *const u32,
+        litres_len: usize,
+        kilogram_limits: *const u32,
+        kilogram_limits_len: usize,
+        litre_limits: *const u32,
+        litre_limits_len: usize,
     ) -> u64;
 
-    /// Tests a hand-made balanced plan; its total.
+    /// Tests a hand-made balanced plan with its loads; its total.
     pub fn planner_balanced_hand(
         n: usize,
         m: usize,
@@ -129,6 +137,14 @@ unsafe extern "C" {
         division: *const u8,
         division_len: usize,
         claimed: u32,
+        kilograms: *const u32,
+        kilograms_len: usize,
+        litres: *const u32,
+        litres_len: usize,
+        kilogram_limits: *const u32,
+        kilogram_limits_len: usize,
+        litre_limits: *const u32,
+        litre_limits_len: usize,
     ) -> u64;
 
     /// Writes a survey file into the front of `file`; the file's length as the total.

@@ -84,6 +84,9 @@ refusals! {
         "sender of a hand plan", "move streets";
     19 ClaimedTotal: "a claimed total that is not the plan's", "sender of a hand plan", "add it up again";
     20 ListedTwice: "a site listed twice", "sender of a list", "strike one of the two";
+    21 Load: "a load or limit above 1,000,000", "sender of a hand plan", "correct the number";
+    22 Kilograms: "a site with more kilograms than its limit", "sender of a hand plan", "move streets";
+    23 Litres: "a site with more litres than its limit", "sender of a hand plan", "move streets";
 }
 
 impl Refusal {

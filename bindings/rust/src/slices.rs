@@ -4,8 +4,8 @@
 //! first. A refused call leaves the lent slices as they were. Sizes are `n` streets, `m` sites and `k` sites to choose. `scores` are the
 //! `m` scores of the places, best first. `rows` are `n` rows of `m` bytes: the sites that a street has ranked, best first, then zeros.
 //!
-//! A function here has the parameters of the library's own and gets more of them with it, while a program that uses the crate's types stays
-//! as it is.
+//! A function here has the parameters of the library's own, the loads of a hand plan together as [`Loads`], and gets more of them with it,
+//! while a program that uses the crate's types stays as it is.
 //!
 //! ```
 //! use planner::{slices, Refusal};
@@ -16,7 +16,8 @@
 //! assert_eq!((division, chosen), ([2, 1], [1, 2]));
 //! assert_eq!(slices::floor(2, 2, 3, &scores, &rows), Err(Refusal::Chosen));
 //! ```
-use crate::{raw, version, Kind, Refusal, VERSION};
+#![allow(clippy::too_many_arguments, reason = "a function here has the parameters of the library's own")]
+use crate::{raw, version, Kind, Loads, Refusal, VERSION};
 
 /// What a survey file says of its town.
 #[derive(Clone, Copy, Debug, PartialEq, Eq, Hash)]
@@ -216,32 +217,73 @@ pub(crate) fn hand_plan(
     rows: &[u8],
     division: &[u8],
     claimed: u32,
+    loads: Loads<'_>,
 ) -> Result<u32, Refusal> {
     let call = match kind {
         Kind::Free => raw::planner_free_hand,
         Kind::Balanced => raw::planner_balanced_hand,
     };
-    // SAFETY: the three pointers are a slice's own, beside its length, and are only read.
-    unpacked(unsafe { call(n, m, k, scores.as_ptr(), scores.len(), rows.as_ptr(), rows.len(), division.as_ptr(), division.len(), claimed) })
+    let Loads { kilograms, litres, kilogram_limits, litre_limits } = loads;
+    // SAFETY: each pointer is a slice's own, beside its length, and is only read.
+    unpacked(unsafe {
+        call(
+            n,
+            m,
+            k,
+            scores.as_ptr(),
+            scores.len(),
+            rows.as_ptr(),
+            rows.len(),
+            division.as_ptr(),
+            division.len(),
+            claimed,
+            kilograms.as_ptr(),
+            kilograms.len(),
+            litres.as_ptr(),
+            litres.len(),
+            kilogram_limits.as_ptr(),
+            kilogram_limits.len(),
+            litre_limits.as_ptr(),
+            litre_limits.len(),
+        )
+    })
 }
 
-/// Tests a hand-made free plan: the site of each street, 0 for none, and the total that is claimed for it. Gives the plan's total, which
-/// the claimed one then is.
+/// Tests a hand-made free plan: the site of each street, 0 for none, the total that is claimed for it, and its [`Loads`], `n` of each kind
+/// and `m` limits of each kind. Gives the plan's total, which the claimed one then is.
 ///
 /// # Errors
-/// As [`check_survey`], where 6 `BufferLength` is tried for the division too; then over the division 17 `SiteOutside`, 18 `SitesUsed` and
-/// 19 `ClaimedTotal`.
-pub fn free_hand(n: usize, m: usize, k: usize, scores: &[u16], rows: &[u8], division: &[u8], claimed: u32) -> Result<u32, Refusal> {
-    hand_plan(Kind::Free, [n, m, k], scores, rows, division, claimed)
+/// As [`check_survey`], where 6 `BufferLength` is tried for the division and the loads too; then 21 `Load` over the loads and limits; over
+/// the division 17 `SiteOutside` and 18 `SitesUsed`; site by site 22 `Kilograms` before 23 `Litres`; last 19 `ClaimedTotal`.
+pub fn free_hand(
+    n: usize,
+    m: usize,
+    k: usize,
+    scores: &[u16],
+    rows: &[u8],
+    division: &[u8],
+    claimed: u32,
+    loads: Loads<'_>,
+) -> Result<u32, Refusal> {
+    hand_plan(Kind::Free, [n, m, k], scores, rows, division, claimed, loads)
 }
 
-/// Tests a hand-made balanced plan: `n % k` sites, whichever they are, with `n / k + 1` streets each and `k - n % k` with `n / k`, and the
-/// total that is claimed for it. Gives the plan's total, which the claimed one then is.
+/// Tests a hand-made balanced plan: `n % k` sites, whichever they are, with `n / k + 1` streets each and `k - n % k` with `n / k`, the
+/// total that is claimed for it, and its loads as in [`free_hand`]. Gives the plan's total, which the claimed one then is.
 ///
 /// # Errors
 /// As [`free_hand`], where 5 `Share` is tried after 3.
-pub fn balanced_hand(n: usize, m: usize, k: usize, scores: &[u16], rows: &[u8], division: &[u8], claimed: u32) -> Result<u32, Refusal> {
-    hand_plan(Kind::Balanced, [n, m, k], scores, rows, division, claimed)
+pub fn balanced_hand(
+    n: usize,
+    m: usize,
+    k: usize,
+    scores: &[u16],
+    rows: &[u8],
+    division: &[u8],
+    claimed: u32,
+    loads: Loads<'_>,
+) -> Result<u32, Refusal> {
+    hand_plan(Kind::Balanced, [n, m, k], scores, rows, division, claimed, loads)
 }
 
 /// Writes the survey file into a buffer of any length, of which [`FILE_LENGTH`](crate::FILE_LENGTH) bytes are always enough. Gives the

@@ -1,5 +1,5 @@
 //! A town's survey.
-use crate::{slices, HandPlan, Kind, Plan, Refusal, MAX_SITES, MAX_STREETS};
+use crate::{slices, HandPlan, Kind, Loads, Plan, Refusal, MAX_SITES, MAX_STREETS};
 
 /// A town's survey: the score of each place in a list, and the ranked list of each street.
 ///
@@ -189,14 +189,40 @@ impl Survey {
     }
 
     /// Tests a plan that was made by hand and gives its total, which the claimed one then is. A free plan has to use at most K sites, and
-    /// a balanced one exactly K sites whose numbers of streets differ by one at most, whichever of them have the one more.
+    /// a balanced one exactly K sites whose numbers of streets differ by one at most, whichever of them have the one more. The streets
+    /// bring nothing to their sites ([`Loads::none`]).
     ///
     /// # Errors
     /// In order of trial: 3 [`Chosen`](Refusal::Chosen), for a balanced plan 5 [`Share`](Refusal::Share) where K is above the number of
     /// streets, 6 [`BufferLength`](Refusal::BufferLength) where the division has not a site for each street, 17
     /// [`SiteOutside`](Refusal::SiteOutside), 18 [`SitesUsed`](Refusal::SitesUsed), 19 [`ClaimedTotal`](Refusal::ClaimedTotal).
     pub fn test(&self, plan: &HandPlan) -> Result<u32, Refusal> {
+        self.test_with_loads(plan, Loads::none(self.streets(), self.sites()))
+    }
+
+    /// Tests a plan as [`test`](Survey::test) does, and what the streets bring to each site against its limits.
+    ///
+    /// ```
+    /// use planner::{HandPlan, Kind, Loads, Refusal, Survey};
+    ///
+    /// # fn main() -> Result<(), Refusal> {
+    /// let survey = Survey::new(&[2, 1], &[[1, 2], [1, 2]])?;
+    /// let loads = Loads { kilograms: &[8, 5], litres: &[70, 90], kilogram_limits: &[10, 10], litre_limits: &[160, 160] };
+    /// assert_eq!(survey.test_with_loads(&HandPlan::new(Kind::Balanced, 2, [2, 1], 3), loads), Ok(3));
+    /// // site 1 can't take the kilograms of both streets, while it can take their litres
+    /// let plan = HandPlan::new(Kind::Free, 1, [1, 1], 4);
+    /// assert_eq!(survey.test_with_loads(&plan, loads), Err(Refusal::Kilograms));
+    /// assert_eq!(survey.test_with_loads(&plan, Loads { kilogram_limits: &[13, 10], ..loads }), Ok(4));
+    /// # Ok(())
+    /// # }
+    /// ```
+    ///
+    /// # Errors
+    /// As [`test`](Survey::test), where 6 [`BufferLength`](Refusal::BufferLength) is also tried for the loads, which have a number of each
+    /// kind for each street and a limit of each kind for each site; 21 [`Load`](Refusal::Load) comes before 17, and site by site 22
+    /// [`Kilograms`](Refusal::Kilograms) before 23 [`Litres`](Refusal::Litres) come between 18 and 19.
+    pub fn test_with_loads(&self, plan: &HandPlan, loads: Loads<'_>) -> Result<u32, Refusal> {
         let sizes = [self.streets(), self.sites(), plan.k()];
-        slices::hand_plan(plan.kind(), sizes, &self.scores, &self.rows, plan.division().as_bytes(), plan.claimed())
+        slices::hand_plan(plan.kind(), sizes, &self.scores, &self.rows, plan.division().as_bytes(), plan.claimed(), loads)
     }
 }

@@ -12,6 +12,10 @@ struct Lent {
     row: Vec<u8>,
     sites: Vec<u8>,
     division: Vec<u8>,
+    kilograms: Vec<u32>,
+    litres: Vec<u32>,
+    kilogram_limits: Vec<u32>,
+    litre_limits: Vec<u32>,
     chosen: Vec<u8>,
     file: Vec<u8>,
     read_scores: Vec<u16>,
@@ -26,6 +30,10 @@ fn lent() -> Lent {
         row: vec![2, 1, 0],
         sites: vec![1, 2],
         division: vec![1, 1, 2, 2],
+        kilograms: vec![5, 6, 7, 8],
+        litres: vec![1, 4, 3, 4],
+        kilogram_limits: vec![11, 15, 0],
+        litre_limits: vec![5, 7, 0],
         chosen: vec![8; 2],
         file: [&b"TN\x02\0\x02\x02\x01SC\x02\0\x01\0ST\x01\0\x02\x01\x02ST\x02\0\x01\x01EN"[..], &[0; 20]].concat(),
         read_scores: vec![8; SCORES_LENGTH],
@@ -38,7 +46,7 @@ fn lent() -> Lent {
 #[derive(Clone, Copy)]
 struct Empty<'a> {
     names: &'a [&'a str],
-    address: *mut u16,
+    address: *mut u32,
 }
 
 impl Empty<'_> {
@@ -66,18 +74,19 @@ struct Call {
     run: fn(Empty, &mut Lent) -> u64,
 }
 
-/// A function with the numbers before its buffers and what follows them.
+/// A function with the numbers before its buffers and what follows them, which may be buffers again.
 macro_rules! call {
-    ($function:ident: $($number:expr)*; $($buffer:ident $refusal:literal)*; $($last:expr)*) => {
+    ($function:ident: $($number:expr)*; $($buffer:ident $refusal:literal)*; $($last:expr)* $(; $($behind:ident $of_behind:literal)*)?) => {
         Call {
             name: stringify!($function),
-            refusals: &[$((stringify!($buffer), $refusal)),*],
+            refusals: &[$((stringify!($buffer), $refusal),)* $($((stringify!($behind), $of_behind),)*)?],
             // SAFETY: each pointer is a vector's own beside its length, and only an empty buffer has another.
             run: |empty, lent| unsafe {
                 $function(
                     $($number,)*
                     $(empty.start(stringify!($buffer), &mut lent.$buffer), empty.length(stringify!($buffer), lent.$buffer.len()),)*
                     $($last,)*
+                    $($(empty.start(stringify!($behind), &mut lent.$behind), empty.length(stringify!($behind), lent.$behind.len()),)*)?
                 ) as u64
             },
         }
@@ -94,8 +103,8 @@ const CALLS: [Call; 13] = [
     call!(planner_free_plan: 4 3 2; scores 6 rows 6 division 6 chosen 6;),
     call!(planner_balanced_plan: 4 3 2; scores 6 rows 6 division 6 chosen 6;),
     call!(planner_floor: 4 3 2; scores 6 rows 6;),
-    call!(planner_free_hand: 4 3 2; scores 6 rows 6 division 6; 7),
-    call!(planner_balanced_hand: 4 3 2; scores 6 rows 6 division 6; 7),
+    call!(planner_free_hand: 4 3 2; scores 6 rows 6 division 6; 7; kilograms 6 litres 6 kilogram_limits 6 litre_limits 6),
+    call!(planner_balanced_hand: 4 3 2; scores 6 rows 6 division 6; 7; kilograms 6 litres 6 kilogram_limits 6 litre_limits 6),
     call!(planner_write_file: 4 3 2 1; scores 6 rows 6 file 7;),
     Call { name: "planner_read_file", refusals: &[("file", 12), ("read_scores", 6), ("read_rows", 6)], run: read_file },
 ];

@@ -1,5 +1,5 @@
 //! The crate, include/planner.h and the repository's README say the same: refusals, constants, version and functions.
-use planner::{Kind, Refusal};
+use planner::{Kind, Loads, Refusal};
 use std::mem;
 
 const HEADER: &str = include_str!("../../../include/planner.h");
@@ -69,6 +69,7 @@ fn the_header_has_the_constants() {
         ("PLANNER_MAX_STREETS", planner::MAX_STREETS),
         ("PLANNER_MAX_SITES", planner::MAX_SITES),
         ("PLANNER_TOP_SCORE", planner::TOP_SCORE.into()),
+        ("PLANNER_MOST_LOAD", Loads::MOST as usize),
         ("PLANNER_SCORES_LENGTH", planner::SCORES_LENGTH),
         ("PLANNER_ROWS_LENGTH", planner::ROWS_LENGTH),
         ("PLANNER_FILE_LENGTH", planner::FILE_LENGTH),

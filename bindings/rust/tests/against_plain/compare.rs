@@ -1,9 +1,14 @@
 //! One call of the library and the same by `plain`: the answer, and every byte lent, must agree. Each gives back the number that was
 //! refused, 0 for an accepted call.
+use crate::drawn_loads::lent;
+use crate::plain::loads::Loads;
 use crate::plain::survey::{self, division_total, Town};
 use crate::plain::{balanced, division, file, free, hand, refusals};
 use planner::{slices, Refusal};
 use std::fmt::Debug;
+
+/// How many numbers a call can give back, 0 among them.
+pub const NUMBERS: usize = Refusal::ALL.len() + 1;
 
 /// What lent buffers hold before a call, so that a byte that is touched shows.
 const OLD: u8 = 0xA5;
@@ -105,14 +110,16 @@ pub fn floor(t: &Town) -> u8 {
     same(slices::floor(t.n, t.m, t.k, &t.scores, &t.rows), plain, "floor", t)
 }
 
-pub fn free_hand(t: &Town, division: &[u8], claimed: u32) -> u8 {
-    let plain = hand::free(t, division, claimed).map(|()| division_total(&t.values(), division));
-    same(slices::free_hand(t.n, t.m, t.k, &t.scores, &t.rows, division, claimed), plain, "free_hand", t)
+pub fn free_hand(t: &Town, division: &[u8], claimed: u32, loads: &Loads) -> u8 {
+    let ours = slices::free_hand(t.n, t.m, t.k, &t.scores, &t.rows, division, claimed, lent(loads));
+    let plain = hand::free(t, division, claimed, loads).map(|()| division_total(&t.values(), division));
+    same(ours, plain, &format!("free_hand {division:?} with {loads:?}"), t)
 }
 
-pub fn balanced_hand(t: &Town, division: &[u8], claimed: u32) -> u8 {
-    let plain = hand::balanced(t, division, claimed).map(|()| division_total(&t.values(), division));
-    same(slices::balanced_hand(t.n, t.m, t.k, &t.scores, &t.rows, division, claimed), plain, "balanced_hand", t)
+pub fn balanced_hand(t: &Town, division: &[u8], claimed: u32, loads: &Loads) -> u8 {
+    let ours = slices::balanced_hand(t.n, t.m, t.k, &t.scores, &t.rows, division, claimed, lent(loads));
+    let plain = hand::balanced(t, division, claimed, loads).map(|()| division_total(&t.values(), division));
+    same(ours, plain, &format!("balanced_hand {division:?} with {loads:?}"), t)
 }
 
 pub fn write_file(t: &Town, kind: usize, length: usize) -> u8 {

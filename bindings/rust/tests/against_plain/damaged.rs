@@ -1,5 +1,5 @@
 //! Surveys, lists of sites and buffers with something wrong: the first number in document 01's order comes back, and no byte changes.
-use crate::compare::{self, Buffers};
+use crate::compare::{self, Buffers, NUMBERS};
 use crate::plain::survey::Town;
 use crate::random::Random;
 use crate::towns;
@@ -54,7 +54,7 @@ fn length(random: &mut Random, right: usize) -> usize {
 }
 
 /// Every call on one town; counts the numbers that come back.
-fn call_all(random: &mut Random, town: &Town, seen: &mut [usize; 21]) {
+fn call_all(random: &mut Random, town: &Town, seen: &mut [usize; NUMBERS]) {
     let list = any_list(random, town.m);
     let row = &town.rows[..length(random, town.m).min(town.rows.len())];
     let site = [1, town.m as u8, 0, 65, random.below(256) as u8][random.below(5)];
@@ -80,7 +80,7 @@ fn call_all(random: &mut Random, town: &Town, seen: &mut [usize; 21]) {
 #[test]
 fn damaged_surveys() {
     let mut random = Random::new(5);
-    let mut seen = [0; 21];
+    let mut seen = [0; NUMBERS];
     for turn in 0..20_000 {
         let mut town = towns::any_town(&mut random, 9, 5);
         for _ in 0..turn % 3 {
@@ -98,7 +98,7 @@ fn damaged_surveys() {
 #[test]
 fn damaged_long_surveys() {
     let mut random = Random::new(6);
-    let mut seen = [0; 21];
+    let mut seen = [0; NUMBERS];
     for _ in 0..300 {
         let mut town = towns::town(&mut random, towns::Culture::Cut, 400, 64, 8);
         damage(&mut random, &mut town);

@@ -1,5 +1,5 @@
 //! Survey files, right and damaged, read into buffers of right and wrong lengths.
-use crate::compare;
+use crate::compare::{self, NUMBERS};
 use crate::plain::file;
 use crate::random::Random;
 use crate::towns::{self, Culture};
@@ -25,7 +25,7 @@ fn every_beginning() {
 #[test]
 fn every_byte_changed() {
     let mut random = Random::new(9);
-    let mut seen = [0; 21];
+    let mut seen = [0; NUMBERS];
     for _ in 0..40 {
         let file = small_file(&mut random);
         for i in 0..file.len() {

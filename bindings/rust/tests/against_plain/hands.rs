@@ -1,5 +1,7 @@
-//! Hand-made plans: right ones, and ones with a street moved, a site that is none, or another total claimed.
-use crate::compare;
+//! Hand-made plans: right ones, and ones with a street moved, a site that is none, another total claimed, or loads that do not fit.
+use crate::compare::{self, NUMBERS};
+use crate::drawn_loads;
+use crate::plain::loads::Loads;
 use crate::plain::survey::{division_total, Town};
 use crate::plain::{balanced, free};
 use crate::random::Random;
@@ -26,18 +28,22 @@ fn changed(random: &mut Random, town: &Town, plan: &[u8]) -> (Vec<u8>, u32) {
 }
 
 /// Both tests of one plan, changed again and again.
-fn try_plan(random: &mut Random, town: &Town, plan: &[u8], seen: &mut [[usize; 21]; 2]) {
+fn try_plan(random: &mut Random, town: &Town, plan: &[u8], seen: &mut [[usize; NUMBERS]; 2]) {
     for _ in 0..6 {
         let (division, claimed) = changed(random, town, plan);
-        seen[0][usize::from(compare::free_hand(town, &division, claimed))] += 1;
-        seen[1][usize::from(compare::balanced_hand(town, &division, claimed))] += 1;
+        let mut loads = drawn_loads::loads(random, town, &division);
+        if random.once_in(8) {
+            drawn_loads::damage(random, &mut loads);
+        }
+        seen[0][usize::from(compare::free_hand(town, &division, claimed, &loads))] += 1;
+        seen[1][usize::from(compare::balanced_hand(town, &division, claimed, &loads))] += 1;
     }
 }
 
 #[test]
 fn hand_plans() {
     let mut random = Random::new(14);
-    let mut seen = [[0; 21]; 2];
+    let mut seen = [[0; NUMBERS]; 2];
     for turn in 0..6_000 {
         let mut town = towns::any_town(&mut random, 9, 5);
         let mut plan = free::divide(&town, &free::sites(&town));
@@ -53,7 +59,7 @@ fn hand_plans() {
         }
         try_plan(&mut random, &town, &plan, &mut seen);
     }
-    for number in [0, 3, 6, 10, 17, 18, 19] {
+    for number in [0, 3, 6, 10, 17, 18, 19, 21, 22, 23] {
         assert!(seen[0][number] > 100 && seen[1][number] > 100, "{number} came {} and {} times", seen[0][number], seen[1][number]);
     }
     assert!(seen[0][5] == 0 && seen[1][5] > 100);
@@ -67,10 +73,43 @@ fn our_plans_pass() {
         let t = towns::any_town(&mut random, most.0, most.1);
         let (mut division, mut chosen) = (vec![0; t.n], vec![0; t.k]);
         let total = slices::free_plan(t.n, t.m, t.k, &t.scores, &t.rows, &mut division, &mut chosen).expect("a right survey");
-        assert_eq!(compare::free_hand(&t, &division, total), 0);
+        assert_eq!(compare::free_hand(&t, &division, total, &drawn_loads::fitting(&mut random, &t, &division)), 0);
         if t.k <= t.n {
             let total = slices::balanced_plan(t.n, t.m, t.k, &t.scores, &t.rows, &mut division, &mut chosen).expect("a right survey");
-            assert_eq!(compare::balanced_hand(&t, &division, total), 0);
+            assert_eq!(compare::balanced_hand(&t, &division, total, &drawn_loads::fitting(&mut random, &t, &division)), 0);
         }
     }
+}
+
+#[test]
+fn long_hand_plans() {
+    let mut random = Random::new(16);
+    let mut seen = [[0; NUMBERS]; 2];
+    for _ in 0..60 {
+        let t = towns::any_town(&mut random, 400, 64);
+        let (mut division, mut chosen) = (vec![0; t.n], vec![0; t.k]);
+        slices::free_plan(t.n, t.m, t.k, &t.scores, &t.rows, &mut division, &mut chosen).expect("a right survey");
+        try_plan(&mut random, &t, &division, &mut seen);
+    }
+    for number in [0, 21, 22, 23] {
+        assert!(seen[0][number] > 5, "{number} came {} times", seen[0][number]);
+    }
+}
+
+/// Both tests of a plan that gives 400 streets the last of 64 sites, where each brings so many kilograms and litres.
+fn one_site_for_all(kilograms: u32, litres: u32) -> [u8; 2] {
+    let town = Town { n: 400, m: 64, k: 1, scores: vec![0; 64], rows: vec![0; 25_600] };
+    let [kilogram_limits, litre_limits] = [(); 2].map(|()| vec![1_000_000; 64]);
+    let loads = Loads { kilograms: vec![kilograms; 400], litres: vec![litres; 400], kilogram_limits, litre_limits };
+    [compare::free_hand, compare::balanced_hand].map(|test| test(&town, &[64; 400], 0, &loads))
+}
+
+#[test]
+fn greatest_sums() {
+    assert_eq!(one_site_for_all(2_500, 2_500), [0, 0]);
+    assert_eq!(one_site_for_all(2_501, 2_500), [22, 22]);
+    assert_eq!(one_site_for_all(2_500, 2_501), [23, 23]);
+    assert_eq!(one_site_for_all(1_000_000, 1_000_000), [22, 22]);
+    assert_eq!(one_site_for_all(0, 1_000_000), [23, 23]);
+    assert_eq!(one_site_for_all(0, 1_000_001), [21, 21]);
 }

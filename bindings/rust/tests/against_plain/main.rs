@@ -2,6 +2,7 @@
 //! definition, rounds played as they are told, every division tried on small towns.
 mod compare;
 mod damaged;
+mod drawn_loads;
 mod files;
 mod hands;
 mod long;

@@ -1,6 +1,6 @@
 //! The documents' worked surveys, and each refusal once.
 use crate::plain::survey::Town;
-use planner::{slices, Kind, Refusal, ROWS_LENGTH, SCORES_LENGTH};
+use planner::{slices, Kind, Loads, Refusal, ROWS_LENGTH, SCORES_LENGTH};
 
 /// A town from its lists.
 fn town(m: usize, k: usize, scores: &[u16], lists: &[&[u8]]) -> Town {
@@ -99,10 +99,11 @@ fn as_many_sites_as_streets_or_more() {
     assert_eq!(floor(&t), Err(Refusal::Share));
     assert_eq!(divided(&t, &[3, 2, 1]), Err(Refusal::Share));
     assert_eq!(divided(&t, &[3, 2]), Ok((2, vec![2, 3])));
-    assert_eq!(slices::balanced_hand(2, 3, 3, &t.scores, &t.rows, &[1, 3], 3), Err(Refusal::Share));
+    let loads = Loads::none(2, 3);
+    assert_eq!(slices::balanced_hand(2, 3, 3, &t.scores, &t.rows, &[1, 3], 3, loads), Err(Refusal::Share));
     // no other call has this refusal
     assert_eq!(free(&t), Ok((4, vec![1, 2, 3], vec![1, 1])));
-    assert_eq!(slices::free_hand(2, 3, 3, &t.scores, &t.rows, &[1, 3], 3), Ok(3));
+    assert_eq!(slices::free_hand(2, 3, 3, &t.scores, &t.rows, &[1, 3], 3, loads), Ok(3));
     assert_eq!(slices::list_total(2, 3, &t.scores, &t.rows, &[3, 2, 1]), Ok(4));
     assert_eq!(slices::write_file(2, 3, 3, Kind::Balanced.into(), &t.scores, &t.rows, &mut [0; 40]), Ok(33));
 }
@@ -110,7 +111,8 @@ fn as_many_sites_as_streets_or_more() {
 #[test]
 fn uneven_hand_plans() {
     let t = p1(3);
-    let test = |division: &[u8], claimed| slices::balanced_hand(t.n, t.m, t.k, &t.scores, &t.rows, division, claimed);
+    let test =
+        |division: &[u8], claimed| slices::balanced_hand(t.n, t.m, t.k, &t.scores, &t.rows, division, claimed, Loads::none(t.n, t.m));
     // any of the three may have two streets
     assert_eq!(test(&[1, 1, 2, 3], 8), Ok(8));
     assert_eq!(test(&[1, 2, 2, 3], 6), Ok(6));
@@ -121,9 +123,36 @@ fn uneven_hand_plans() {
     assert_eq!(test(&[1, 1, 1, 2], 6), Err(Refusal::SitesUsed));
     // of ten streets over three sites no site has five
     let t = ten_streets(3);
-    let test = |division: &[u8]| slices::balanced_hand(t.n, t.m, t.k, &t.scores, &t.rows, division, 34);
+    let test = |division: &[u8]| slices::balanced_hand(t.n, t.m, t.k, &t.scores, &t.rows, division, 34, Loads::none(t.n, t.m));
     assert_eq!(test(&[2, 4, 1, 2, 2, 4, 1, 2, 1, 4]), Ok(34));
     assert_eq!(test(&[2, 4, 1, 2, 2, 4, 2, 2, 1, 4]), Err(Refusal::SitesUsed));
+}
+
+/// The two sums of site 1 are 11 and 5, those of site 2 are 15 and 7, each just its limit.
+const LOADS: Loads = Loads { kilograms: &[5, 6, 7, 8], litres: &[1, 4, 3, 4], kilogram_limits: &[11, 15, 0], litre_limits: &[5, 7, 0] };
+
+#[test]
+fn loads_of_hand_plans() {
+    let t = p1(2);
+    let both = |loads| {
+        let ours = [slices::free_hand, slices::balanced_hand].map(|test| test(4, 3, 2, &t.scores, &t.rows, &[1, 1, 2, 2], 7, loads));
+        assert_eq!(ours[0], ours[1]);
+        ours[0]
+    };
+    assert_eq!(both(LOADS), Ok(7));
+    assert_eq!(both(Loads { kilogram_limits: &[11, 14, 0], ..LOADS }), Err(Refusal::Kilograms));
+    assert_eq!(both(Loads { litre_limits: &[4, 7, 0], ..LOADS }), Err(Refusal::Litres));
+    // the sites by number, at each of them kilograms first
+    assert_eq!(both(Loads { kilogram_limits: &[11, 14, 0], litre_limits: &[4, 7, 0], ..LOADS }), Err(Refusal::Litres));
+    assert_eq!(both(Loads { kilogram_limits: &[11, 14, 0], litre_limits: &[5, 6, 0], ..LOADS }), Err(Refusal::Kilograms));
+    // a number that is too large comes first, whether it counts for a site or not
+    assert_eq!(both(Loads { litre_limits: &[4, 7, 1_000_001], ..LOADS }), Err(Refusal::Load));
+    assert_eq!(both(Loads { litre_limits: &[5, 7, 1_000_000], ..LOADS }), Ok(7));
+    // street 4 is unserved: it loads no site, and its numbers are tried all the same
+    let test = |loads| slices::free_hand(4, 3, 2, &t.scores, &t.rows, &[1, 1, 2, 0], 6, loads);
+    assert_eq!(test(Loads { kilograms: &[5, 6, 15, 1_000_000], ..LOADS }), Ok(6));
+    assert_eq!(test(Loads { kilograms: &[5, 6, 16, 1_000_000], ..LOADS }), Err(Refusal::Kilograms));
+    assert_eq!(test(Loads { kilograms: &[5, 6, 15, 1_000_001], ..LOADS }), Err(Refusal::Load));
 }
 
 #[test]
@@ -157,6 +186,7 @@ fn each_refusal() {
         check(4, 3, 2, &t.scores, &rows)
     };
     let list = |sites: &[u8]| slices::list_total(4, 3, &t.scores, &t.rows, sites).unwrap_err();
+    let hand = |division: [u8; 4], claimed, loads| slices::free_hand(4, 3, 2, &t.scores, &t.rows, &division, claimed, loads).unwrap_err();
     let given = [
         check(0, 3, 2, &t.scores, &t.rows),
         check(4, 65, 2, &t.scores, &t.rows),
@@ -175,9 +205,12 @@ fn each_refusal() {
         changed(17, 3, 28),
         changed(0, b'T', 29),
         list(&[1, 0]),
-        slices::free_hand(4, 3, 2, &t.scores, &t.rows, &[1, 2, 3, 0], 0).unwrap_err(),
-        slices::balanced_hand(4, 3, 2, &t.scores, &t.rows, &[1, 1, 2, 2], 6).unwrap_err(),
+        hand([1, 2, 3, 0], 0, Loads::none(4, 3)),
+        hand([1, 1, 2, 2], 6, LOADS),
         list(&[1, 1]),
+        hand([1, 1, 2, 2], 7, Loads { litres: &[1, 4, 3, 1_000_001], ..LOADS }),
+        hand([1, 1, 2, 2], 7, Loads { kilograms: &[5, 6, 7, 9], ..LOADS }),
+        hand([1, 1, 2, 2], 7, Loads { litres: &[1, 5, 3, 4], ..LOADS }),
     ];
     assert_eq!(given, Refusal::ALL);
 }

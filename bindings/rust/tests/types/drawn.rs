@@ -1,4 +1,5 @@
 //! Drawn towns: what the types give is what the functions over slices give, number by number and byte by byte.
+use crate::drawn_loads::{self, lent};
 use crate::random::Random;
 use crate::survey::{self, Town};
 use crate::towns;
@@ -33,59 +34,70 @@ fn rows(t: &Town, survey: &Survey) {
     }
 }
 
-fn plans(t: &Town, survey: &Survey, k: usize) {
+fn plans(random: &mut Random, t: &Town, survey: &Survey, k: usize) {
     let (mut division, mut chosen) = (vec![0; t.n], vec![0; k.min(t.m)]);
     let free = slices::free_plan(t.n, t.m, k, &t.scores, &t.rows, &mut division, &mut chosen);
     let plan = survey.plan(Kind::Free, k);
     assert_eq!(parts(&plan), free.map(|total| (total, chosen.clone(), division.clone())), "K {k} of {t:?}");
-    hand_plans(t, survey, Kind::Free, plan);
+    hand_plans(random, t, survey, Kind::Free, plan);
     let balanced = slices::balanced_plan(t.n, t.m, k, &t.scores, &t.rows, &mut division, &mut chosen);
     let plan = survey.plan(Kind::Balanced, k);
     assert_eq!(parts(&plan), balanced.map(|total| (total, chosen, division)), "K {k} of {t:?}");
-    hand_plans(t, survey, Kind::Balanced, plan);
+    hand_plans(random, t, survey, Kind::Balanced, plan);
     assert_eq!(survey.floor(k), slices::floor(t.n, t.m, k, &t.scores, &t.rows));
 }
 
-/// One of our plans passes as a hand-made one, and is tested as the functions test it for another kind, K, total and number of streets.
-fn hand_plans(t: &Town, survey: &Survey, kind: Kind, plan: Result<Plan, Refusal>) {
+/// One of our plans passes as a hand-made one without loads and where its loads fit, and is tested as the functions test it for another kind, K, total and
+/// number of streets, and for loads that fit or not.
+fn hand_plans(random: &mut Random, t: &Town, survey: &Survey, kind: Kind, plan: Result<Plan, Refusal>) {
     let Ok(plan) = plan else { return };
+    let fitting = drawn_loads::fitting(random, t, plan.division.as_bytes());
     assert_eq!(survey.test(&plan.to_hand_plan(kind)), Ok(plan.total));
+    assert_eq!(survey.test_with_loads(&plan.to_hand_plan(kind), lent(&fitting)), Ok(plan.total));
+    let mut other = drawn_loads::loads(random, t, plan.division.as_bytes());
+    if random.once_in(4) {
+        drawn_loads::damage(random, &mut other);
+    }
     let (k, bytes) = (plan.sites.len(), plan.division.into_bytes());
     let longer = [&bytes[..], &[1]].concat();
-    for (k, division, claimed) in
-        [(k, &bytes, plan.total + 1), (k + 1, &bytes, plan.total), (1, &bytes, plan.total), (k, &longer, plan.total)]
-    {
-        let free = slices::free_hand(t.n, t.m, k, &t.scores, &t.rows, division, claimed);
-        assert_eq!(survey.test(&HandPlan::new(Kind::Free, k, division.clone(), claimed)), free);
-        let balanced = slices::balanced_hand(t.n, t.m, k, &t.scores, &t.rows, division, claimed);
-        assert_eq!(survey.test(&HandPlan::new(Kind::Balanced, k, division.clone(), claimed)), balanced);
+    for (k, division, claimed, loads) in [
+        (k, &bytes, plan.total, &other),
+        (k, &bytes, plan.total + 1, &fitting),
+        (k + 1, &bytes, plan.total, &fitting),
+        (1, &bytes, plan.total, &fitting),
+        (k, &longer, plan.total, &fitting),
+    ] {
+        let free = slices::free_hand(t.n, t.m, k, &t.scores, &t.rows, division, claimed, lent(loads));
+        assert_eq!(survey.test_with_loads(&HandPlan::new(Kind::Free, k, division.clone(), claimed), lent(loads)), free);
+        let balanced = slices::balanced_hand(t.n, t.m, k, &t.scores, &t.rows, division, claimed, lent(loads));
+        assert_eq!(survey.test_with_loads(&HandPlan::new(Kind::Balanced, k, division.clone(), claimed), lent(loads)), balanced);
     }
 }
 
-fn lists(t: &Town, survey: &Survey, sites: &[u8]) {
+fn lists(random: &mut Random, t: &Town, survey: &Survey, sites: &[u8]) {
     let mut division = vec![0; t.n];
     assert_eq!(survey.list_total(sites), slices::list_total(t.n, t.m, &t.scores, &t.rows, sites));
     let free = slices::free_division(t.n, t.m, &t.scores, &t.rows, sites, &mut division);
     let plan = survey.divide(Kind::Free, sites);
     assert_eq!(parts(&plan), free.map(|total| (total, sites.to_vec(), division.clone())), "{sites:?} of {t:?}");
-    hand_plans(t, survey, Kind::Free, plan);
+    hand_plans(random, t, survey, Kind::Free, plan);
     let balanced = slices::balanced_division(t.n, t.m, &t.scores, &t.rows, sites, &mut division);
     let plan = survey.divide(Kind::Balanced, sites);
     assert_eq!(parts(&plan), balanced.map(|total| (total, sites.to_vec(), division)), "{sites:?} of {t:?}");
-    hand_plans(t, survey, Kind::Balanced, plan);
+    hand_plans(random, t, survey, Kind::Balanced, plan);
 }
 
 fn everything(random: &mut Random, t: &Town) {
     let survey = survey_of(t);
     rows(t, &survey);
     for k in [t.k, 0, t.m + 1, usize::MAX] {
-        plans(t, &survey, k);
+        plans(random, t, &survey, k);
     }
     let sites = towns::some_sites(random, t.m, t.k);
     let twice = [&sites[..], &sites[..1]].concat();
     let outside = [&sites[1..], &[t.m as u8 + 1]].concat();
     for list in [&sites, &twice, &outside, &vec![], &vec![1; t.m + 1]] {
-        lists(t, &survey, list);
+        lists(random, t, &survey, list);
     }
 }
 

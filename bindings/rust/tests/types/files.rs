@@ -1,7 +1,7 @@
 //! Files: read after write, write after read, and what is refused.
 use crate::random::Random;
 use crate::towns;
-use crate::worked;
+use crate::{worked, NUMBERS};
 use planner::{slices, Kind, Refusal, Survey, SurveyFile, FILE_LENGTH, ROWS_LENGTH, SCORES_LENGTH};
 
 /// A drawn town's survey with a kind and a K.
@@ -34,7 +34,7 @@ fn there_and_back() {
 #[test]
 fn damaged_files() {
     let mut random = Random::new(22);
-    let mut seen = [0; 21];
+    let mut seen = [0; NUMBERS];
     for _ in 0..6_000 {
         let mut bytes = drawn_file(&mut random, 6, 4).write().expect("a right file");
         let at = random.below(bytes.len());

@@ -1,7 +1,7 @@
 //! Surveys that are refused: each constructor gives the number of the library's check.
 use crate::random::Random;
 use crate::survey::Town;
-use crate::towns;
+use crate::{towns, NUMBERS};
 use planner::{slices, Refusal, Survey};
 
 /// Makes a town's scores or rows wrong in one way; seldom they stay right.
@@ -19,7 +19,7 @@ fn damage(random: &mut Random, town: &mut Town) {
 #[test]
 fn damaged_rows() {
     let mut random = Random::new(23);
-    let mut seen = [0; 21];
+    let mut seen = [0; NUMBERS];
     for _ in 0..8_000 {
         let mut town = towns::any_town(&mut random, 9, 5);
         damage(&mut random, &mut town);
@@ -38,7 +38,7 @@ fn damaged_rows() {
 #[test]
 fn damaged_lists() {
     let mut random = Random::new(24);
-    let mut seen = [0; 21];
+    let mut seen = [0; NUMBERS];
     for _ in 0..8_000 {
         let mut town = towns::any_town(&mut random, 9, 5);
         damage(&mut random, &mut town);

@@ -5,7 +5,8 @@ use planner::raw::*;
 use std::collections::BTreeMap;
 use std::fmt::Debug;
 
-/// A call with the keys of its inputs and of the outputs that it has where it is accepted.
+/// A call with the keys of its inputs, of which a file of an earlier request leaves some out, and of the outputs that it has where it is
+/// accepted.
 pub struct Call {
     pub name: &'static str,
     pub inputs: &'static str,
@@ -14,15 +15,17 @@ pub struct Call {
     pub run: fn(&mut Given) -> u64,
 }
 
-/// Calls a function of the archive: numbers go as they are, a buffer as where it starts and its length, and more numbers may follow.
+/// Calls a function of the archive: numbers go as they are, a buffer as where it starts and its length, and more numbers and then more
+/// buffers may follow.
 macro_rules! pass {
-    ($given:ident, $function:ident, $($number:ident)*; $($buffer:ident)*; $($last:ident)*) => {
+    ($given:ident, $function:ident, $($number:ident)*; $($buffer:ident)*; $($last:ident)* $(; $($behind:ident)*)?) => {
         // SAFETY: each pointer stands beside the length of the memory that it starts, which is this buffer's alone.
         unsafe {
             $function(
                 $($given.number(stringify!($number)),)*
                 $($given.start(stringify!($buffer)), $given.length(stringify!($buffer)),)*
                 $($given.number(stringify!($last)),)*
+                $($($given.start(stringify!($behind)), $given.length(stringify!($behind)),)*)?
             )
         }
     };
@@ -49,10 +52,12 @@ pub const CALLS: [Call; 11] = [
            } },
     Call { name: "floor", inputs: "n m k scores rows", outputs: "total",
            run: |given| pass!(given, planner_floor, n m k; scores rows;) },
-    Call { name: "hand_plan", inputs: "n m k kind scores rows division claimed", outputs: "total",
+    Call { name: "hand_plan", inputs: "n m k kind scores rows division claimed kilograms litres kilogram-limits litre-limits", outputs: "total",
            run: |given| match given.kind() {
-               Kind::Free => pass!(given, planner_free_hand, n m k; scores rows division; claimed),
-               Kind::Balanced => pass!(given, planner_balanced_hand, n m k; scores rows division; claimed),
+               Kind::Free => pass!(given, planner_free_hand, n m k; scores rows division; claimed;
+                                   kilograms litres kilogram_limits litre_limits),
+               Kind::Balanced => pass!(given, planner_balanced_hand, n m k; scores rows division; claimed;
+                                       kilograms litres kilogram_limits litre_limits),
            } },
     Call { name: "read_file", inputs: "file rows-length scores-length", outputs: "n m k kind rows.. scores..",
            run: read_file },
@@ -87,7 +92,7 @@ pub const NUMBERS: [&str; 6] = ["n", "m", "k", "kind", "site", "claimed"];
 pub fn width(key: &str) -> usize {
     match key {
         "n" | "m" | "k" | "kind" => 8,
-        "claimed" => 4,
+        "claimed" | "kilograms" | "litres" | "kilogram-limits" | "litre-limits" => 4,
         "scores" => 2,
         _ => 1,
     }
@@ -111,12 +116,13 @@ impl Given {
         self.numbers[key].try_into().expect("a number that fits, as was tried when it was read")
     }
 
-    fn start<T>(&mut self, key: &str) -> *mut T {
-        self.lent.get_mut(key).expect("a buffer of the table").start()
+    /// Where a buffer starts, by its parameter's name, in which an underscore stands for the key's hyphen.
+    fn start<T>(&mut self, name: &str) -> *mut T {
+        self.lent.get_mut(&name.replace('_', "-")).expect("a buffer of the table").start()
     }
 
-    fn length(&self, key: &str) -> usize {
-        self.lent[key].length()
+    fn length(&self, name: &str) -> usize {
+        self.lent[&name.replace('_', "-")].length()
     }
 
     fn kind(&self) -> Kind {

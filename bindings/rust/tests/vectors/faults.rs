@@ -40,6 +40,29 @@ fn wrong_outcomes() {
 }
 
 #[test]
+fn inputs_left_out() {
+    let without = "call hand_plan\nn 1\nm 1\nk 1\nkind 1\nscores 7\nrows 1\ndivision 1\nclaimed 7\n=> 0\ntotal 7\n";
+    let with = without.replace("=> 0", "kilograms 5\nlitres 6\nkilogram-limits 5\nlitre-limits 6\n=> 0");
+    for file in ["base.txt", "2026-01.txt"] {
+        assert_eq!(run::every_block(file, without), (1, Vec::new()));
+        let twice = format!("{file}:1: `hand_plan` has no line `kilograms`, or has it twice");
+        assert_eq!(run::every_block(file, &with).1, [twice]);
+    }
+    for file in ["2026-02.txt", "2026-10.txt"] {
+        assert_eq!(run::every_block(file, &with), (1, Vec::new()));
+        assert_eq!(run::every_block(file, without).1, [format!("{file}:1: `hand_plan` lacks its line `kilograms`")]);
+    }
+    // each of the four goes to the function as the buffer of its own name
+    for (least, number) in [("kilogram-limits 5", 22), ("litre-limits 6", 23)] {
+        let over = with.replace(least, &least.replace(['5', '6'], "4"));
+        let wrong = format!("here:1: hand_plan answers {number} with 0, and 0 with 7 is due");
+        assert_eq!(run::every_block("here", &over).1, [wrong]);
+    }
+    let longer = with.replace("litres 6", "litres 6 6");
+    assert_eq!(run::every_block("here", &longer).1, ["here:1: hand_plan answers 6 with 0, and 0 with 7 is due"]);
+}
+
+#[test]
 fn writes_that_are_not_due() {
     for width in [1, 2, 4, 8] {
         let mut lent = Lent::holding(&[1, 2, 3], width, 0);

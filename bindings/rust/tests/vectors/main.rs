@@ -2,6 +2,7 @@
 mod blocks;
 mod calls;
 mod faults;
+mod left_out;
 mod lent;
 mod run;
 

@@ -1,6 +1,7 @@
 //! Runs the blocks of a file and compares what comes back with what stands there.
 use crate::blocks::{blocks, Block, Fault, Line};
 use crate::calls::{width, Call, Given, CALLS, NUMBERS};
+use crate::left_out;
 use crate::lent::Lent;
 use std::collections::BTreeMap;
 
@@ -11,7 +12,7 @@ const PATTERNS: [u8; 2] = [0x5A, 0xA5];
 pub fn every_block(file: &str, text: &str) -> (usize, Vec<String>) {
     let (mut calls, mut faults) = (0, Vec::new());
     for block in blocks(text) {
-        match block.and_then(|block| run(file, &block)) {
+        match block.and_then(|block| run(file, block)) {
             Ok(()) => calls += 1,
             Err(fault) => faults.push(format!("{file}:{}: {}", fault.line, fault.words)),
         }
@@ -22,15 +23,16 @@ pub fn every_block(file: &str, text: &str) -> (usize, Vec<String>) {
     (calls, faults)
 }
 
-fn run(file: &str, block: &Block) -> Result<(), Fault> {
+fn run(file: &str, mut block: Block) -> Result<(), Fault> {
     let call = CALLS.iter().find(|call| call.name == block.name);
     let call = call.ok_or_else(|| Fault::new(block.line, format!("no call `{}` is known", block.name)))?;
-    same_keys(block, &block.inputs, call.inputs)?;
-    same_keys(block, &block.outputs, if block.refusal == 0 { call.outputs } else { "" })?;
+    block.inputs.extend(left_out::lines(file, call, &block));
+    same_keys(&block, &block.inputs, call.inputs)?;
+    same_keys(&block, &block.outputs, if block.refusal == 0 { call.outputs } else { "" })?;
     for pattern in PATTERNS {
         let mut given = given(call, &block.inputs, pattern)?;
         given.place = format!("{file}:{}", block.line);
-        let total = expected(call, block, &mut given.lent)?;
+        let total = expected(call, &block, &mut given.lent)?;
         let answer = (call.run)(&mut given);
         let (number, sum) = (answer >> 32, answer & 0xFFFF_FFFF);
         if (number, sum) != (block.refusal, total) {

@@ -1,5 +1,6 @@
 //! The test of a hand-made plan.
-use super::refusals::{length, outside, share, survey, Tried};
+use super::loads::{sum, Loads};
+use super::refusals::{length, outside, refuse, share, survey, Tried};
 use super::shares::shares;
 use super::survey::{division_total, Town};
 
@@ -8,31 +9,52 @@ fn counts(town: &Town, division: &[u8]) -> Vec<usize> {
     town.sites().map(|site| division.iter().filter(|&&given| given == site).count()).collect()
 }
 
-fn claim(town: &Town, division: &[u8], claimed: u32) -> Tried {
-    if division_total(&town.values(), division) == claimed {
-        Ok(())
-    } else {
-        Err(19)
+/// 6: the division, and the four buffers of loads and limits.
+fn lengths(town: &Town, division: &[u8], loads: &Loads) -> Tried {
+    for streets in [division.len(), loads.kilograms.len(), loads.litres.len()] {
+        length(streets, town.n)?;
     }
+    length(loads.kilogram_limits.len(), town.m)?;
+    length(loads.litre_limits.len(), town.m)
 }
 
-pub fn free(town: &Town, division: &[u8], claimed: u32) -> Tried {
-    survey(town, town.k, || length(division.len(), town.n))?;
-    outside(0, town.m, division)?;
-    if counts(town, division).iter().filter(|&&streets| streets > 0).count() > town.k {
-        return Err(18);
+/// 21: a load or limit above 1,000,000.
+fn too_large(loads: &Loads) -> Tried {
+    let all = [&loads.kilograms, &loads.litres, &loads.kilogram_limits, &loads.litre_limits];
+    refuse(21, all.into_iter().flatten().any(|&number| number > 1_000_000))
+}
+
+/// Sites by number, at each site 22 before 23; a sum equal to its limit fits.
+fn over(town: &Town, division: &[u8], loads: &Loads) -> Tried {
+    for site in town.sites() {
+        let limit = usize::from(site) - 1;
+        refuse(22, sum(division, &loads.kilograms, site) > loads.kilogram_limits[limit].into())?;
+        refuse(23, sum(division, &loads.litres, site) > loads.litre_limits[limit].into())?;
     }
+    Ok(())
+}
+
+fn claim(town: &Town, division: &[u8], claimed: u32) -> Tried {
+    refuse(19, division_total(&town.values(), division) != claimed)
+}
+
+pub fn free(town: &Town, division: &[u8], claimed: u32, loads: &Loads) -> Tried {
+    survey(town, town.k, || lengths(town, division, loads))?;
+    too_large(loads)?;
+    outside(0, town.m, division)?;
+    refuse(18, counts(town, division).iter().filter(|&&streets| streets > 0).count() > town.k)?;
+    over(town, division, loads)?;
     claim(town, division, claimed)
 }
 
-pub fn balanced(town: &Town, division: &[u8], claimed: u32) -> Tried {
-    survey(town, town.k, || share(town.n, town.k).and_then(|()| length(division.len(), town.n)))?;
+pub fn balanced(town: &Town, division: &[u8], claimed: u32, loads: &Loads) -> Tried {
+    survey(town, town.k, || share(town.n, town.k).and_then(|()| lengths(town, division, loads)))?;
+    too_large(loads)?;
     outside(1, town.m, division)?;
     // the sites that are used, largest first, have the shares of the rounds, which fall too
     let mut used: Vec<usize> = counts(town, division).into_iter().filter(|&streets| streets > 0).collect();
     used.sort_by(|a, b| b.cmp(a));
-    if used != shares(town.n, town.k) {
-        return Err(18);
-    }
+    refuse(18, used != shares(town.n, town.k))?;
+    over(town, division, loads)?;
     claim(town, division, claimed)
 }

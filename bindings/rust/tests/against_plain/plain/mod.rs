@@ -4,6 +4,7 @@ pub mod division;
 pub mod file;
 pub mod free;
 pub mod hand;
+pub mod loads;
 pub mod refusals;
 pub mod shares;
 pub mod survey;

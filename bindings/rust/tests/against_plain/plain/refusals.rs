@@ -3,7 +3,7 @@ use super::survey::Town;
 
 pub type Tried = Result<(), u8>;
 
-fn refuse(number: u8, when: bool) -> Tried {
+pub fn refuse(number: u8, when: bool) -> Tried {
     if when {
         Err(number)
     } else {
