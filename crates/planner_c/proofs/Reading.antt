@@ -8,10 +8,10 @@ use Rattle.survey.specs.Town.{is}
 use Rattle.refusals.specs.Inputs.{ReadInput}
 use Rattle.refusals.specs.Refusals.{readRefusal}
 use Rattle.file_refusals.proofs.SizesGiven.{GivenSizes}
-use Rattle.planner.specs.declared.Read.{Read}
-use Rattle.planner.specs.declared.Read.the-variants as read
-use Rattle.planner.specs.Calls.{FileRead}
-use Rattle.planner.proofs.ReadAnswers.{survey-tells, refusal-tells}
+use Rattle.file_calls.specs.declared.Read.{Read}
+use Rattle.file_calls.specs.declared.Read.the-variants as read
+use Rattle.file_calls.specs.Calls.{FileRead}
+use Rattle.file_calls.proofs.ReadAnswers.{survey-tells, refusal-tells}
 use Rattle.planner_c.specs.Packed.{packed, Sizes, sizesOf, sizesAfter, FileReadInto}
 
 -- what the four numbers hold after a refusal, and after none

@@ -8,10 +8,12 @@ use denote.Triple.Both.{Both}
 use Rattle.survey_file.specs.Decode.{streetsIn, sitesIn, chosenIn, kindIn}
 use Rattle.refusals.specs.Inputs.{ReadInput}
 use Rattle.refusals.specs.Refusals.{readRefusal}
-use Rattle.planner.specs.declared.Checked.{Checked}
-use Rattle.planner.specs.declared.Answer.{Answer}
-use Rattle.planner.specs.Answers.{checkedNumber, number, total, readNumber}
-use Rattle.planner.specs.Calls.{FileRead}
+use Rattle.survey_calls.specs.declared.Checked.{Checked}
+use Rattle.call_answers.specs.declared.Answer.{Answer}
+use Rattle.call_answers.specs.Answers.{number, total}
+use Rattle.survey_calls.specs.Calls.{checkedNumber}
+use Rattle.file_calls.specs.Answers.{readNumber}
+use Rattle.file_calls.specs.Calls.{FileRead}
 
 -- the library's version: the year and the number of the last request that it meets
 abbrev pub version : ℕ

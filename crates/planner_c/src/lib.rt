@@ -9,9 +9,12 @@ ghost use lib.ListN.{length};
 ghost use Rattle.survey.specs.Town.{was, is};
 ghost use Rattle.survey.specs.Rows.{rankedPart};
 ghost use Rattle.refusals.specs.Inputs.{surveyLent, rowLent, listLent, divisionLent, planLent, handLent, writeLent, readLent};
-ghost use Rattle.planner.specs.Answers.{checkedNumber, number, total};
-ghost use Rattle.planner.specs.Calls.{SurveyChecked, FreePlanned, BalancedPlanned, FreeDivided, BalancedDivided, RowScored};
-ghost use Rattle.planner.specs.Calls.{ListTotalled, FloorGiven, FreeHandTested, BalancedHandTested, FileWritten};
+ghost use Rattle.call_answers.specs.Answers.{number, total};
+ghost use Rattle.survey_calls.specs.Calls.{checkedNumber, SurveyChecked, RowScored};
+ghost use Rattle.list_calls.specs.Calls.{FreeDivided, BalancedDivided, ListTotalled};
+ghost use Rattle.plan_calls.specs.Calls.{FreePlanned, BalancedPlanned, FloorGiven};
+ghost use Rattle.hand_calls.specs.Calls.{FreeHandTested, BalancedHandTested};
+ghost use Rattle.file_calls.specs.Calls.{FileWritten};
 ghost use Rattle.planner_c.specs.Packed.{version, packed, PacksChecked, PacksAnswer, sizesWere, sizesAre, FileReadInto};
 
 // A refusal as one number: its own in the upper half.

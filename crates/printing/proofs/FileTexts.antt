@@ -17,11 +17,11 @@ use Rattle.survey_file.proofs.Tries.{as-due}
 use Rattle.refusals.specs.Inputs.{ReadInput}
 use Rattle.refusals.specs.Refusals.{readRefusal}
 use Rattle.file_refusals.proofs.SizesGiven.{GivenSizes}
-use Rattle.planner.specs.declared.Read.{Read}
-use Rattle.planner.specs.declared.Read.the-variants as read
-use Rattle.planner.specs.Answers.{readAccepts}
-use Rattle.planner.specs.Calls.{FileRead}
-use Rattle.planner.proofs.ReadAnswers.{survey-tells, refusal-tells}
+use Rattle.file_calls.specs.declared.Read.{Read}
+use Rattle.file_calls.specs.declared.Read.the-variants as read
+use Rattle.file_calls.specs.Answers.{readAccepts}
+use Rattle.file_calls.specs.Calls.{FileRead}
+use Rattle.file_calls.proofs.ReadAnswers.{survey-tells, refusal-tells}
 use Rattle.listing.specs.Listing.{refusedLine}
 use Rattle.printing.specs.Texts.{unlessRefused, planText, printed}
 use Rattle.printing.specs.Asked.{SurveyAsked}

@@ -18,10 +18,10 @@ use Rattle.survey_file.proofs.Tries.{both, as-due}
 use Rattle.refusals.specs.Inputs.{PlanInput}
 use Rattle.refusals.specs.Refusals.{buffersRefusal, freePlanRefusal, balancedPlanRefusal}
 use Rattle.refusals.proofs.Listed.{called}
-use Rattle.planner.specs.declared.Answer.{Answer}
-use Rattle.planner.specs.declared.Answer.the-variants as answer
-use Rattle.planner.specs.Answers.{Told}
-use Rattle.planner.specs.Calls.{FreePlanned, BalancedPlanned}
+use Rattle.call_answers.specs.declared.Answer.{Answer}
+use Rattle.call_answers.specs.declared.Answer.the-variants as answer
+use Rattle.call_answers.specs.Answers.{Told}
+use Rattle.plan_calls.specs.Calls.{FreePlanned, BalancedPlanned}
 use Rattle.listing.specs.Listing.{listing, refusedLine}
 use Rattle.printing.specs.Texts.{freeListing, balancedListing, unlessRefused, answerText, planText}
 use Rattle.printing.specs.Asked.{SurveyAsked, PlanAsked, ListingAsked}

@@ -9,8 +9,8 @@ use Rattle.survey.specs.Town.{Town}
 use Rattle.survey.specs.Refusals.{shareRefusal}
 use Rattle.survey_file.specs.Decode.{fileRefusal, townIn, chosenIn, kindIn}
 use Rattle.plans.specs.Plans.{listTotal, freeDivision, freeSites, balancedDivision, balancedSites, balancedTotal}
-use Rattle.planner.specs.declared.Answer.{Answer}
-use Rattle.planner.specs.declared.Answer.the-variants as answer
+use Rattle.call_answers.specs.declared.Answer.{Answer}
+use Rattle.call_answers.specs.declared.Answer.the-variants as answer
 use Rattle.listing.specs.Listing.{listing, refusedLine}
 
 -- the listing of the free plan of k sites

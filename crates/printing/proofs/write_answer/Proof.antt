@@ -6,7 +6,7 @@ use mathlib.Core.Path.{sym, ap}
 use mathlib.Core.List.{List}
 use Prim.Native.Nat.{ℕ, _<_}
 use Rattle.counting.specs.Lists.{at}
-use Rattle.planner.specs.declared.Answer.{Answer}
+use Rattle.call_answers.specs.declared.Answer.{Answer}
 use Rattle.listing.specs.Listing.{refusedLine}
 use Rattle.listing.proofs.Rooms.{start-room, written-same}
 use Rattle.listing.proofs.Sizes.{refused-fits, listing-fits}

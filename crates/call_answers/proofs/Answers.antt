@@ -1,0 +1,46 @@
+-- Laws of the answers, from the number x that a call's tries gave.
+-- Assumes nothing.
+use mathlib.Core.Path.{_≡_, refl, sym, _∙_}
+use mathlib.Core.List.{List}
+use Prim.Native.Nat.{ℕ, zero, suc}
+use native.Mathlib.Nat.{suc-ne-zero}
+use lib.Dec.{eqb}
+use borrow.Author.Tests.{eq-eqb, ne-eqb}
+use Rattle.counting.specs.Buffers.{after}
+use Rattle.counting.proofs.Refusals.{when-yes, when-none}
+use Rattle.refusals.specs.Refusals.{Tried}
+use Rattle.call_answers.specs.declared.Answer.the-variants as answer
+use Rattle.call_answers.specs.Answers.{Told}
+
+-- what the buffer holds after a refusal x, and after none
+kept-after : (x : ℕ) (new old : List ℕ) → (x ≡ 0 → ⊥) → old ≡ after x new old
+kept-after zero new old h = absurd (h refl)
+kept-after (suc x) new old h = refl
+
+new-after : (x : ℕ) (new old now : List ℕ) → x ≡ 0 → now ≡ new → now ≡ after x new old
+new-after zero new old now z q = q
+new-after (suc x) new old now z q = absurd (suc-ne-zero x z)
+
+module _ {A : Type 0} {chain : A → ℕ} {i : A} {x : ℕ} (tried : Tried chain i x) where
+  module _ (h : x ≡ 0 → ⊥) where
+    -- a refusal, with the total 0
+    pub told-refused : {t : ℕ} → Told (answer.Refused x) (chain i) t
+    told-refused {t} =
+        let none : eqb (chain i) 0 ≡ _ = ne-eqb (chain i) 0 (λ z. h (tried .first ∙ z)) in
+        record { right-number = tried .first; right-case = sym none; right-total = when-none t (eqb (chain i) 0) none }
+
+    -- a lent buffer holds what it held
+    pub kept-refused : (new old : List ℕ) → old ≡ after (chain i) new old
+    kept-refused new old = kept-after (chain i) new old (λ z. h (tried .first ∙ z))
+
+  module _ (z : x ≡ 0) where
+    -- an acceptance, with the total that is due
+    pub told-total : {s t : ℕ} → s ≡ t → Told (answer.Total s) (chain i) t
+    told-total {s} {t} q =
+        let passed : chain i ≡ 0 = sym (tried .first) ∙ z in
+        let yes : eqb (chain i) 0 ≡ _ = eq-eqb (chain i) 0 passed in
+        record { right-number = sym passed; right-case = sym yes; right-total = q ∙ when-yes t (eqb (chain i) 0) yes }
+
+    -- a lent buffer holds the new bytes
+    pub new-accepted : (new old : List ℕ) {now : List ℕ} → now ≡ new → now ≡ after (chain i) new old
+    new-accepted new old {now} q = new-after (chain i) new old now (sym (tried .first) ∙ z) q

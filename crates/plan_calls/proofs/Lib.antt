@@ -1,0 +1,3 @@
+pub mod OwnTests
+pub mod FreePromises
+pub mod BalancedPromises
