@@ -1,6 +1,5 @@
 -- What the tests of hand-made plans promise, each in one record, on every input.
 -- Assumes nothing.
-use Prim.Native.Nat.{ℕ}
 use mathlib.Core.Path.{_≡_}
 use mathlib.Core.Bool.{true}
 use Rattle.plans.specs.Plans.{planTotal}
