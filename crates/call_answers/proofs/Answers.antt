@@ -1,16 +1,18 @@
 -- Laws of the answers, from the number x that a call's tries gave.
 -- Assumes nothing.
 use mathlib.Core.Path.{_≡_, refl, sym, _∙_}
+use mathlib.Core.Bool.{true}
 use mathlib.Core.List.{List}
 use Prim.Native.Nat.{ℕ, zero, suc}
 use native.Mathlib.Nat.{suc-ne-zero}
 use lib.Dec.{eqb}
-use borrow.Author.Tests.{eq-eqb, ne-eqb}
+use borrow.Author.Tests.{eq-eqb, ne-eqb, eqb-true}
 use Rattle.counting.specs.Buffers.{after}
 use Rattle.counting.proofs.Refusals.{when-yes, when-none}
 use Rattle.refusals.specs.Refusals.{Tried}
+use Rattle.call_answers.specs.declared.Answer.{Answer}
 use Rattle.call_answers.specs.declared.Answer.the-variants as answer
-use Rattle.call_answers.specs.Answers.{Told}
+use Rattle.call_answers.specs.Answers.{Told, accepts, total}
 
 -- what the buffer holds after a refusal x, and after none
 kept-after : (x : ℕ) (new old : List ℕ) → (x ≡ 0 → ⊥) → old ≡ after x new old
@@ -20,6 +22,17 @@ kept-after (suc x) new old h = refl
 new-after : (x : ℕ) (new old now : List ℕ) → x ≡ 0 → now ≡ new → now ≡ after x new old
 new-after zero new old now z q = q
 new-after (suc x) new old now z q = absurd (suc-ne-zero x z)
+
+-- an acceptance says that nothing is refused, with the total that is due and the new bytes in a lent buffer
+module _ {r : Answer} {x t : ℕ} (told : Told r x t) (y : accepts r ≡ true) where
+  pub told-passed : x ≡ 0
+  told-passed = eqb-true x 0 (sym (told .right-case) ∙ y)
+
+  pub told-due : total r ≡ t
+  told-due = told .right-total ∙ sym (when-yes t (eqb x 0) (eq-eqb x 0 told-passed))
+
+  pub told-new : (new old : List ℕ) {now : List ℕ} → now ≡ after x new old → now ≡ new
+  told-new new old e = e ∙ sym (new-after x new old new told-passed refl)
 
 module _ {A : Type 0} {chain : A → ℕ} {i : A} {x : ℕ} (tried : Tried chain i x) where
   module _ (h : x ≡ 0 → ⊥) where

@@ -5,20 +5,9 @@ use survey::check;
 ghost use mathlib.Core.Path.{_≡_};
 ghost use lib.Dec.{ltb};
 ghost use Rattle.counting.specs.Words.{_when_};
-ghost use Rattle.survey.specs.Refusals.{kindRefusal};
 ghost use Rattle.refusals.specs.Inputs.{writeLent, readLent};
 ghost use Rattle.refusals.specs.Refusals.{Tried, writeRefusal};
 ghost use Rattle.file_refusals.specs.ReadSizes.{SizesTried};
-
-// 4: a kind that is neither free nor balanced.
-fn kind_refusal(kind: usize) -> u8
-    ensures { λ r. ⌜ r ≡ kindRefusal kind ⌝ }
-{
-    if 1 < kind {
-        return 4;
-    }
-    0
-}
 
 // 7: a file buffer that is shorter than the file to be written.
 fn room_refusal(given: usize, due: usize) -> u8
@@ -42,7 +31,7 @@ pub fn write_refusal(
 ) -> u8
     ensures { λ r. ⌜ Tried writeRefusal (writeLent n m k kind scores rows file) r ⌝ }
 {
-    let r = check::survey_refusal(n, m, k, kind_refusal(kind), scores, rows);
+    let r = check::survey_refusal(n, m, k, refusals::kind_refusal(kind), scores, rows);
     if r != 0 {
         return r;
     }

@@ -8,10 +8,9 @@ use Rattle.counting.specs.Bounds.{mostStreets, mostSites}
 use Rattle.counting.specs.Words.{_orElse_}
 use Rattle.counting.proofs.Refusals.{or-zero}
 use Rattle.survey.specs.Town.{Town}
-use Rattle.survey.specs.Refusals.{shareRefusal, lengthRefusal, surveyRefusal}
+use Rattle.survey.specs.Refusals.{lengthRefusal, surveyRefusal}
 use Rattle.survey.proofs.Sound.{accepted, own-accepted, chosen-within}
 use Rattle.loads.specs.Loads.{Loads, aboveRefusal, lengthsRefusal, loadsRefusal}
-use Rattle.refusals.specs.Refusals.{balanceRefusal}
 use Rattle.refusals.proofs.Listed.{fits}
 
 -- few sites and streets, at least one site to choose, a row and a site for each street, and loads and limits of their lengths
@@ -20,26 +19,18 @@ pub record HandSizes (t : Town) (k : ℕ) (division : List ℕ) (loads : Loads) 
   pub fit : (length (t .rows) ≡ t .n * t .m) × (length division ≡ t .n) × (t .n ≤ mostStreets) × (t .m ≤ mostSites)
   pub lengths : lengthsRefusal (t .n) (t .m) loads ≡ 0
 
-module _ (t : Town) (k own r : ℕ) (division : List ℕ) (loads : Loads) (e : r ≡ surveyRefusal t k own) (z : r ≡ 0) where
-  -- whatever the call tried before the buffers of its loads, if it has tried the length of the division
-  tried : (before : ℕ) → own ≡ before orElse lengthsRefusal (t .n) (t .m) loads → (before ≡ 0 → lengthRefusal (length division) (t .n) ≡ 0)
-      → HandSizes t k division loads
-  tried before o l =
-      let ok = accepted t k own (sym e ∙ z) in
-      let (first, rest) = or-zero before _ (sym o ∙ own-accepted t k own (sym e ∙ z)) in
-      record {
-        some-chosen = chosen-within t k own (sym e ∙ z) .0;
-        fit = (ok .rows-fit, fits (length division) (t .n) (l first), ok .few-streets, ok .few-sites);
-        lengths = rest;
-      }
-
-  -- a free hand plan has tried that alone
-  pub free-tried : own ≡ lengthRefusal (length division) (t .n) orElse lengthsRefusal (t .n) (t .m) loads → HandSizes t k division loads
-  free-tried o = tried (lengthRefusal (length division) (t .n)) o (λ x. x)
-
-  -- a balanced one has tried the shares before
-  pub balanced-tried : own ≡ balanceRefusal (t .n) k division orElse lengthsRefusal (t .n) (t .m) loads → HandSizes t k division loads
-  balanced-tried o = tried (balanceRefusal (t .n) k division) o (λ x. or-zero (shareRefusal (t .n) k) _ x .1)
+-- whatever the call tried for its kind before the lengths
+pub hand-tried : (t : Town) (k own r kind : ℕ) (division : List ℕ) (loads : Loads) → r ≡ surveyRefusal t k own → r ≡ 0
+    → own ≡ kind orElse lengthRefusal (length division) (t .n) orElse lengthsRefusal (t .n) (t .m) loads → HandSizes t k division loads
+hand-tried t k own r kind division loads e z o =
+    let ok = accepted t k own (sym e ∙ z) in
+    let lengths = or-zero kind _ (sym o ∙ own-accepted t k own (sym e ∙ z)) .1 in
+    let (streets, rest) = or-zero (lengthRefusal (length division) (t .n)) _ lengths in
+    record {
+      some-chosen = chosen-within t k own (sym e ∙ z) .0;
+      fit = (ok .rows-fit, fits (length division) (t .n) streets, ok .few-streets, ok .few-sites);
+      lengths = rest;
+    }
 
 -- ---- loads that are not refused
 -- one kind of them, for n streets and m sites

@@ -7,12 +7,14 @@ ghost use Rattle.counting.specs.Bounds.{mostStreets, mostSites};
 ghost use Rattle.counting.specs.Words.{_orElse_, one, countOf};
 ghost use Rattle.counting.specs.Lists.{at};
 ghost use Rattle.survey.specs.Town.{town, was};
+ghost use Rattle.survey.specs.Refusals.{lengthRefusal};
 ghost use Rattle.survey.specs.Rows.{rowAt, scoreOf, value};
 ghost use Rattle.division.specs.Shares.{divisionTotal};
 ghost use Rattle.loads.specs.Loads.{loadsOf, loadsLent, lengthsRefusal};
 ghost use Rattle.loads.specs.Sums.{Summed};
 ghost use Rattle.refusals.specs.Inputs.{handLent};
-ghost use Rattle.refusals.specs.Refusals.{Tried, usedRefusal, sharesRefusal, claimRefusal, loadNumbers, sentRefusal, freeHandRefusal, balancedHandRefusal};
+ghost use Rattle.refusals.specs.Refusals.{Tried, planKindRefusal, usedRefusal, sharesRefusal, usageRefusal, lowestSite};
+ghost use Rattle.refusals.specs.Refusals.{claimRefusal, loadNumbers, sentRefusal, handRefusal};
 ghost use Rattle.hand_plans.specs.Counts.{between};
 
 // How many streets each site has, and how many have none, in one pass over the division.
@@ -82,6 +84,27 @@ fn shares_refusal(n: usize, m: usize, k: usize, division: &[u8]) -> u8
     0
 }
 
+// 18 of a plan, by its kind.
+fn usage_refusal(kind: usize, n: usize, m: usize, k: usize, division: &[u8]) -> u8
+    requires { ⌜ (m ≤ mostSites) × (0 < k) × (n ≤ mostStreets) ⌝ }
+    ensures { λ r. ⌜ r ≡ usageRefusal kind n m k (was division) ⌝ }
+{
+    if kind == 0 {
+        return used_refusal(division, m, k);
+    }
+    shares_refusal(n, m, k, division)
+}
+
+// The lowest site that a street may have: in a free plan 0, which is none.
+fn lowest_site(kind: usize) -> u8
+    ensures { λ r. ⌜ r ≡ lowestSite kind ⌝ }
+{
+    if kind == 0 {
+        return 0;
+    }
+    1
+}
+
 // The score that the street s gives a site.
 fn street_score(m: usize, scores: &[u16], rows: &[u8], s: usize, site: u8) -> u16
     requires { ⌜ s * m + m ≤ length (now rows) ⌝ }
@@ -122,20 +145,27 @@ fn claim_refusal(
     0
 }
 
-// 6 for the buffers of the loads, where the number of the buffer before them is 0.
-fn lengths_refusal(
-    before: u8,
+// What a hand plan is tried for besides its survey: its kind, then 6 for its sites and for the buffers of its loads.
+fn own_refusal(
+    kind: usize,
     n: usize,
     m: usize,
+    k: usize,
+    division: &[u8],
     kilograms: &[u32],
     litres: &[u32],
     kilogram_limits: &[u32],
     litre_limits: &[u32],
 ) -> u8
-    ensures { λ r. ⌜ r ≡ before orElse lengthsRefusal n m (loadsLent kilograms litres «kilogram_limits» «litre_limits») ⌝ }
+    ensures { λ r. ⌜ r ≡ planKindRefusal kind n k orElse lengthRefusal (length (was division)) n orElse
+        lengthsRefusal n m (loadsLent kilograms litres «kilogram_limits» «litre_limits») ⌝ }
 {
-    if before != 0 {
-        return before;
+    let r = refusals::plan_kind_refusal(kind, n, k);
+    if r != 0 {
+        return r;
+    }
+    if division.len() != n {
+        return 6;
     }
     if kilograms.len() != n {
         return 6;
@@ -194,11 +224,13 @@ fn sent_refusal(
     claim_refusal(n, m, scores, rows, division, claimed)
 }
 
-// A free hand plan: a street may go to site 0, and at most k sites are used.
-pub fn free_hand_refusal(
+// A hand plan. Free: a street may go to site 0, and at most k sites are used. Balanced: every street goes to a site, and k sites have the rounds'
+// shares, in any order.
+pub fn hand_refusal(
     n: usize,
     m: usize,
     k: usize,
+    kind: usize,
     scores: &[u16],
     rows: &[u8],
     division: &[u8],
@@ -208,15 +240,24 @@ pub fn free_hand_refusal(
     kilogram_limits: &[u32],
     litre_limits: &[u32],
 ) -> u8
-    ensures { λ r. ⌜ Tried freeHandRefusal (handLent n m k scores rows division claimed kilograms litres «kilogram_limits» «litre_limits») r ⌝ }
+    ensures { λ r. ⌜ Tried handRefusal (handLent n m k kind scores rows division claimed kilograms litres «kilogram_limits» «litre_limits») r ⌝ }
 {
-    let own = refusals::length_refusal(division.len(), n);
-    let own = lengths_refusal(own, n, m, kilograms, litres, kilogram_limits, litre_limits);
+    let own = own_refusal(
+        kind,
+        n,
+        m,
+        k,
+        division,
+        kilograms,
+        litres,
+        kilogram_limits,
+        litre_limits,
+    );
     let r = check::survey_refusal(n, m, k, own, scores, rows);
     if r != 0 {
         return r;
     }
-    let used = used_refusal(division, m, k);
+    let used = usage_refusal(kind, n, m, k, division);
     sent_refusal(
         n,
         m,
@@ -228,46 +269,7 @@ pub fn free_hand_refusal(
         litres,
         kilogram_limits,
         litre_limits,
-        0,
-        used,
-    )
-}
-
-// A balanced hand plan: every street goes to a site, and k sites have the rounds' shares, in any order.
-pub fn balanced_hand_refusal(
-    n: usize,
-    m: usize,
-    k: usize,
-    scores: &[u16],
-    rows: &[u8],
-    division: &[u8],
-    claimed: u32,
-    kilograms: &[u32],
-    litres: &[u32],
-    kilogram_limits: &[u32],
-    litre_limits: &[u32],
-) -> u8
-    ensures { λ r. ⌜ Tried balancedHandRefusal (handLent n m k scores rows division claimed kilograms litres «kilogram_limits» «litre_limits») r ⌝ }
-{
-    let own = refusals::balance_refusal(n, k, division);
-    let own = lengths_refusal(own, n, m, kilograms, litres, kilogram_limits, litre_limits);
-    let r = check::survey_refusal(n, m, k, own, scores, rows);
-    if r != 0 {
-        return r;
-    }
-    let used = shares_refusal(n, m, k, division);
-    sent_refusal(
-        n,
-        m,
-        scores,
-        rows,
-        division,
-        claimed,
-        kilograms,
-        litres,
-        kilogram_limits,
-        litre_limits,
-        1,
+        lowest_site(kind),
         used,
     )
 }

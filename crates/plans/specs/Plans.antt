@@ -7,6 +7,7 @@ use lib.ListN.{length}
 use Rattle.counting.specs.Lists.{has}
 use Rattle.counting.specs.Buffers.{listOf}
 use Rattle.survey.specs.Town.{Town}
+use Rattle.survey.specs.ByKind.{byKind}
 use Rattle.survey.specs.Rows.{listOfStreet, streetPlace, scoreAt, value, shortest}
 use Rattle.free_plan.specs.Greedy.{total, greedy, goesTo}
 use Rattle.shares.specs.Rounds.{roundShare}
@@ -53,6 +54,24 @@ balancedSites t k = balancedRounds t k .chosen
 -- the total that the balanced plan reports: that of its division
 abbrev pub balancedTotal : Town → ℕ → ℕ
 balancedTotal t k = planTotal t (balancedDivision t (balancedSites t k))
+
+-- a plan: its sites in order of choice, the site of each street, and the total that it reports
+pub record Plan : Type 0 where
+  pub sites : List ℕ
+  pub division : List ℕ
+  pub reported : ℕ
+
+-- the free plan of k sites
+abbrev pub freePlan : Town → ℕ → Plan
+freePlan t k = record { sites = freeSites t k; division = freeDivision t (freeSites t k); reported = listTotal t (freeSites t k) }
+
+-- the balanced plan of k sites
+abbrev pub balancedPlan : Town → ℕ → Plan
+balancedPlan t k = record { sites = balancedSites t k; division = balancedDivision t (balancedSites t k); reported = balancedTotal t k }
+
+-- the plan of k sites of a kind
+abbrev pub planOfKind : ℕ → Town → ℕ → Plan
+planOfKind kind t k = byKind kind (freePlan t k) (balancedPlan t k)
 
 -- the floor
 abbrev pub planFloor : Town → ℕ → ℕ

@@ -23,7 +23,7 @@ use Rattle.survey.specs.Accepted.{Accepted}
 use Rattle.survey.proofs.Sound.{accepted, own-accepted, chosen-within}
 use Rattle.refusals.specs.Inputs.{SurveyInput, ListInput, DivisionInput, PlanInput}
 use Rattle.refusals.specs.Refusals.{Tried, rangeRefusal, rangesRefusal, listRefusal, listedRefusal, listTotalRefusal, freeDivisionRefusal}
-use Rattle.refusals.specs.Refusals.{balanceRefusal, balancedDivisionRefusal, buffersRefusal, freePlanRefusal, balancedPlanRefusal, floorRefusal}
+use Rattle.refusals.specs.Refusals.{balanceRefusal, balancedDivisionRefusal, buffersRefusal, planKindRefusal, planRefusal, floorRefusal}
 
 -- ---- sites that are not refused: each is one of 1 to m
 module _ (m : ℕ) (sites : List ℕ) (e : rangesRefusal 1 m sites ≡ 0) where
@@ -115,27 +115,15 @@ module _ {i : DivisionInput} {x : ℕ} (tried : Tried balancedDivisionRefusal i 
   pub balanced-division-fits : length (i .division) ≡ i .town .n
   balanced-division-fits = balance-fits (i .town .n) (length (i .sites)) (i .division) (listed-own (i .town) (i .sites) _ (passed tried z))
 
-module _ {i : PlanInput} {x : ℕ} (tried : Tried freePlanRefusal i x) (z : x ≡ 0) where
-  pub free-plan-called : Called (i .town) (i .k)
-  free-plan-called = called (i .town) (i .k) _ (passed tried z)
-
-  pub free-plan-fits : (length (i .division) ≡ i .town .n) × (length (i .chosen) ≡ i .k)
-  free-plan-fits = buffers-fit (i .town .n) (i .k) (i .division) (i .chosen) (own-accepted (i .town) (i .k) _ (passed tried z))
-
-module _ {i : PlanInput} {x : ℕ} (tried : Tried balancedPlanRefusal i x) (z : x ≡ 0) where
-  pub balanced-plan-called : Called (i .town) (i .k)
-  balanced-plan-called = called (i .town) (i .k) _ (passed tried z)
-
-  -- neither 5 nor 6 applies
-  own-passed : (shareRefusal (i .town .n) (i .k) ≡ 0) × (buffersRefusal (i .town .n) (i .k) (i .division) (i .chosen) ≡ 0)
-  own-passed = or-zero (shareRefusal (i .town .n) (i .k)) _ (own-accepted (i .town) (i .k) _ (passed tried z))
-
-  pub balanced-plan-shares : shareRefusal (i .town .n) (i .k) ≡ 0
-  balanced-plan-shares = own-passed .0
+module _ {i : PlanInput} {x : ℕ} (tried : Tried planRefusal i x) (z : x ≡ 0) where
+  pub plan-called : Called (i .town) (i .k)
+  plan-called = called (i .town) (i .k) _ (passed tried z)
 
   -- its buffers have a place for each street and for each site
-  pub balanced-plan-fits : (length (i .division) ≡ i .town .n) × (length (i .chosen) ≡ i .k)
-  balanced-plan-fits = buffers-fit (i .town .n) (i .k) (i .division) (i .chosen) (own-passed .1)
+  pub plan-fits : (length (i .division) ≡ i .town .n) × (length (i .chosen) ≡ i .k)
+  plan-fits =
+      buffers-fit (i .town .n) (i .k) (i .division) (i .chosen)
+      (or-zero (planKindRefusal (i .kind) (i .town .n) (i .k)) _ (own-accepted (i .town) (i .k) _ (passed tried z)) .1)
 
 -- a floor has a sound survey and a number of sites of 1 to m
 pub floor-called : {i : SurveyInput} {x : ℕ} → Tried floorRefusal i x → x ≡ 0 → Called (i .town) (i .k)

@@ -53,33 +53,35 @@ divisionOf t sites division = record { town = t; sites = sites; division = divis
 abbrev pub divisionLent : ℕ → ℕ → Lent → Lent → Lent → Lent → DivisionInput
 divisionLent n m scores rows sites division = divisionOf (town n m scores rows) (was sites) (was division)
 
--- a plan of k sites, free or balanced, with a buffer for the division and one for the sites
+-- a plan of k sites of a kind, with a buffer for the division and one for the sites
 pub record PlanInput : Type 0 where
   pub town : Town
   pub k : ℕ
+  pub kind : ℕ
   pub division : List ℕ
   pub chosen : List ℕ
 
-abbrev pub planOf : Town → ℕ → List ℕ → List ℕ → PlanInput
-planOf t k division chosen = record { town = t; k = k; division = division; chosen = chosen }
+abbrev pub planOf : Town → ℕ → ℕ → List ℕ → List ℕ → PlanInput
+planOf t k kind division chosen = record { town = t; k = k; kind = kind; division = division; chosen = chosen }
 
-abbrev pub planLent : ℕ → ℕ → ℕ → Lent → Lent → Lent → Lent → PlanInput
-planLent n m k scores rows division chosen = planOf (town n m scores rows) k (was division) (was chosen)
+abbrev pub planLent : ℕ → ℕ → ℕ → ℕ → Lent → Lent → Lent → Lent → PlanInput
+planLent n m k kind scores rows division chosen = planOf (town n m scores rows) k kind (was division) (was chosen)
 
--- a hand-made plan of k sites, free or balanced: a site for each street, the total that is claimed, and what the streets bring to their sites
+-- a hand-made plan of k sites of a kind: a site for each street, the total that is claimed, and what the streets bring to their sites
 pub record HandInput : Type 0 where
   pub town : Town
   pub k : ℕ
+  pub kind : ℕ
   pub division : List ℕ
   pub claimed : ℕ
   pub loads : Loads
 
-abbrev pub handOf : Town → ℕ → List ℕ → ℕ → Loads → HandInput
-handOf t k division claimed loads = record { town = t; k = k; division = division; claimed = claimed; loads = loads }
+abbrev pub handOf : Town → ℕ → ℕ → List ℕ → ℕ → Loads → HandInput
+handOf t k kind division claimed loads = record { town = t; k = k; kind = kind; division = division; claimed = claimed; loads = loads }
 
-abbrev pub handLent : ℕ → ℕ → ℕ → Lent → Lent → Lent → ℕ → Lent → Lent → Lent → Lent → HandInput
-handLent n m k scores rows division claimed kilograms litres kilogramLimits litreLimits =
-    handOf (town n m scores rows) k (was division) claimed (loadsLent kilograms litres kilogramLimits litreLimits)
+abbrev pub handLent : ℕ → ℕ → ℕ → ℕ → Lent → Lent → Lent → ℕ → Lent → Lent → Lent → Lent → HandInput
+handLent n m k kind scores rows division claimed kilograms litres kilogramLimits litreLimits =
+    handOf (town n m scores rows) k kind (was division) claimed (loadsLent kilograms litres kilogramLimits litreLimits)
 
 -- a survey with its kind, and a buffer for its file
 pub record WriteInput : Type 0 where

@@ -12,6 +12,7 @@ use Rattle.counting.specs.Words.{_when_, _unless_, _orElse_, firstOf, countOf, 
 use Rattle.counting.specs.Lists.{at, has, count}
 use Rattle.survey.specs.Town.{Town}
 use Rattle.survey.specs.Rows.{value}
+use Rattle.survey.specs.ByKind.{byKind}
 use Rattle.survey.specs.Refusals.{sitesRefusal, kindRefusal, shareRefusal, lengthRefusal, scoresRefusal, rowRefusal, surveyRefusal}
 use Rattle.shares.specs.Rounds.{leastShare, largerShares}
 use Rattle.division.specs.Shares.{divisionTotal}
@@ -78,11 +79,21 @@ balancedDivisionRefusal i = listedRefusal (i .town) (i .sites) (balanceRefusal (
 abbrev pub buffersRefusal : ℕ → ℕ → List ℕ → List ℕ → ℕ
 buffersRefusal n k division chosen = lengthRefusal (length division) n orElse lengthRefusal (length chosen) k
 
--- free plan
+-- 4, then 5 for a balanced plan
+abbrev pub planKindRefusal : ℕ → ℕ → ℕ → ℕ
+planKindRefusal kind n k = kindRefusal kind orElse byKind kind 0 (shareRefusal n k)
+
+-- plan
+abbrev pub planRefusal : PlanInput → ℕ
+planRefusal i =
+    surveyRefusal (i .town) (i .k)
+    (planKindRefusal (i .kind) (i .town .n) (i .k) orElse buffersRefusal (i .town .n) (i .k) (i .division) (i .chosen))
+
+-- its cases: free plan
 abbrev pub freePlanRefusal : PlanInput → ℕ
 freePlanRefusal i = surveyRefusal (i .town) (i .k) (buffersRefusal (i .town .n) (i .k) (i .division) (i .chosen))
 
--- balanced plan
+-- and balanced plan
 abbrev pub balancedPlanRefusal : PlanInput → ℕ
 balancedPlanRefusal i =
     surveyRefusal (i .town) (i .k) (shareRefusal (i .town .n) (i .k) orElse buffersRefusal (i .town .n) (i .k) (i .division) (i .chosen))
@@ -109,6 +120,14 @@ sharesRefusal n m k division =
     18 unless eqb (sitesWith (eqb (suc (leastShare n k))) m division) (largerShares n k) orElse
     18 unless eqb (sitesWith (eqb (leastShare n k)) m division) (k - largerShares n k)
 
+-- 18 of a plan, by its kind
+abbrev pub usageRefusal : ℕ → ℕ → ℕ → ℕ → List ℕ → ℕ
+usageRefusal kind n m k division = byKind kind (usedRefusal m k division) (sharesRefusal n m k division)
+
+-- the lowest site that a street may have, by the plan's kind: 0 is none
+abbrev pub lowestSite : ℕ → ℕ
+lowestSite kind = byKind kind 0 1
+
 -- what the loads of a hand plan are tried for: 6, 21, then 22 and 23
 pub record LoadNumbers : Type 0 where
   pub lengths : ℕ
@@ -132,23 +151,27 @@ sentRefusal t division claimed low used loads =
     loads .over orElse
     claimRefusal t division claimed
 
--- free hand plan, by the numbers of its loads
+-- hand plan, by the numbers of its loads
+abbrev pub handBy : LoadNumbers → HandInput → ℕ
+handBy loads i =
+    surveyRefusal (i .town) (i .k)
+    (planKindRefusal (i .kind) (i .town .n) (i .k) orElse lengthRefusal (length (i .division)) (i .town .n) orElse loads .lengths) orElse
+    sentRefusal (i .town) (i .division) (i .claimed) (lowestSite (i .kind)) (usageRefusal (i .kind) (i .town .n) (i .town .m) (i .k) (i .division)) loads
+
+abbrev pub handRefusal : HandInput → ℕ
+handRefusal i = handBy (loadNumbers (i .town) (i .division) (i .loads)) i
+
+-- its cases: free hand plan
 abbrev pub freeHandBy : LoadNumbers → HandInput → ℕ
 freeHandBy loads i =
     surveyRefusal (i .town) (i .k) (lengthRefusal (length (i .division)) (i .town .n) orElse loads .lengths) orElse
     sentRefusal (i .town) (i .division) (i .claimed) 0 (usedRefusal (i .town .m) (i .k) (i .division)) loads
 
-abbrev pub freeHandRefusal : HandInput → ℕ
-freeHandRefusal i = freeHandBy (loadNumbers (i .town) (i .division) (i .loads)) i
-
--- balanced hand plan, by the numbers of its loads
+-- and balanced hand plan
 abbrev pub balancedHandBy : LoadNumbers → HandInput → ℕ
 balancedHandBy loads i =
     surveyRefusal (i .town) (i .k) (balanceRefusal (i .town .n) (i .k) (i .division) orElse loads .lengths) orElse
     sentRefusal (i .town) (i .division) (i .claimed) 1 (sharesRefusal (i .town .n) (i .town .m) (i .k) (i .division)) loads
-
-abbrev pub balancedHandRefusal : HandInput → ℕ
-balancedHandRefusal i = balancedHandBy (loadNumbers (i .town) (i .division) (i .loads)) i
 
 -- no load and no limit of a hand plan is refused
 pub record LoadsTaken (t : Town) (loads : Loads) : Type 0 where

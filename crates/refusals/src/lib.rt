@@ -4,10 +4,10 @@ use survey::check;
 ghost use mathlib.Core.Path.{_≡_};
 ghost use Rattle.counting.specs.Words.{_when_, _orElse_};
 ghost use Rattle.survey.specs.Town.{town, was};
-ghost use Rattle.survey.specs.Refusals.{shareRefusal, lengthRefusal};
+ghost use Rattle.survey.specs.Refusals.{kindRefusal, shareRefusal, lengthRefusal};
 ghost use Rattle.refusals.specs.Inputs.{surveyLent, rowLent, listLent, divisionLent, planLent};
 ghost use Rattle.refusals.specs.Refusals.{Tried, rangeRefusal, rowScoreRefusal, rangesRefusal, twiceRefusal, listRefusal, listedRefusal};
-ghost use Rattle.refusals.specs.Refusals.{listTotalRefusal, freeDivisionRefusal, balanceRefusal, balancedDivisionRefusal, buffersRefusal, freePlanRefusal, balancedPlanRefusal, floorRefusal};
+ghost use Rattle.refusals.specs.Refusals.{listTotalRefusal, freeDivisionRefusal, balanceRefusal, balancedDivisionRefusal, buffersRefusal, planKindRefusal, planRefusal, floorRefusal};
 
 // 6: a lent buffer of other than its exact length.
 pub fn length_refusal(given: usize, due: usize) -> u8
@@ -153,7 +153,7 @@ fn share_refusal(n: usize, k: usize) -> u8
 }
 
 // What a balanced division is tried for besides: 5, then 6 for its buffer.
-pub fn balance_refusal(n: usize, k: usize, division: &[u8]) -> u8
+fn balance_refusal(n: usize, k: usize, division: &[u8]) -> u8
     ensures { λ r. ⌜ r ≡ balanceRefusal n k (was division) ⌝ }
 {
     let r = share_refusal(n, k);
@@ -189,46 +189,55 @@ fn buffers_refusal(n: usize, k: usize, division: &[u8], chosen: &[u8]) -> u8
     length_refusal(chosen.len(), k)
 }
 
-// A free plan.
-pub fn free_plan_refusal(
-    n: usize,
-    m: usize,
-    k: usize,
-    scores: &[u16],
-    rows: &[u8],
-    division: &[u8],
-    chosen: &[u8],
-) -> u8
-    ensures { λ r. ⌜ Tried freePlanRefusal (planLent n m k scores rows division chosen) r ⌝ }
+// 4: a kind that is neither free nor balanced.
+pub fn kind_refusal(kind: usize) -> u8
+    ensures { λ r. ⌜ r ≡ kindRefusal kind ⌝ }
 {
-    let own = buffers_refusal(n, k, division, chosen);
-    check::survey_refusal(n, m, k, own, scores, rows)
+    if 1 < kind {
+        return 4;
+    }
+    0
 }
 
-// What a balanced plan is tried for besides: 5, then 6 for its two buffers.
-fn balanced_buffers_refusal(n: usize, k: usize, division: &[u8], chosen: &[u8]) -> u8
-    ensures { λ r. ⌜ r ≡ shareRefusal n k orElse buffersRefusal n k (was division) (was chosen) ⌝ }
+// What a plan is tried for by its kind: a free one for nothing, another for 4, and a balanced one for 5.
+pub fn plan_kind_refusal(kind: usize, n: usize, k: usize) -> u8
+    ensures { λ r. ⌜ r ≡ planKindRefusal kind n k ⌝ }
 {
-    let r = share_refusal(n, k);
+    if kind == 0 {
+        return 0;
+    }
+    let r = kind_refusal(kind);
+    if r != 0 {
+        return r;
+    }
+    share_refusal(n, k)
+}
+
+// What a plan is tried for besides its survey: its kind, then 6 for its two buffers.
+fn plan_own_refusal(kind: usize, n: usize, k: usize, division: &[u8], chosen: &[u8]) -> u8
+    ensures { λ r. ⌜ r ≡ planKindRefusal kind n k orElse buffersRefusal n k (was division) (was chosen) ⌝ }
+{
+    let r = plan_kind_refusal(kind, n, k);
     if r != 0 {
         return r;
     }
     buffers_refusal(n, k, division, chosen)
 }
 
-// A balanced plan.
-pub fn balanced_plan_refusal(
+// A plan of either kind.
+pub fn plan_refusal(
     n: usize,
     m: usize,
     k: usize,
+    kind: usize,
     scores: &[u16],
     rows: &[u8],
     division: &[u8],
     chosen: &[u8],
 ) -> u8
-    ensures { λ r. ⌜ Tried balancedPlanRefusal (planLent n m k scores rows division chosen) r ⌝ }
+    ensures { λ r. ⌜ Tried planRefusal (planLent n m k kind scores rows division chosen) r ⌝ }
 {
-    let own = balanced_buffers_refusal(n, k, division, chosen);
+    let own = plan_own_refusal(kind, n, k, division, chosen);
     check::survey_refusal(n, m, k, own, scores, rows)
 }
 

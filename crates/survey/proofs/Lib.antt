@@ -1,5 +1,6 @@
 pub mod RowLoops
 pub mod Sound
+pub mod ByKind
 pub mod Places
 pub mod Lists
 pub mod Ones

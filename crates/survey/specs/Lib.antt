@@ -1,5 +1,6 @@
 pub mod Town
 pub mod Rows
+pub mod ByKind
 pub mod Refusals
 pub mod Accepted
 pub mod Bits

@@ -1,7 +1,7 @@
--- `file_refusals::kind_refusal` meets its contract. Assumes nothing.
+-- `refusals::kind_refusal` meets its contract. Assumes nothing.
 use Rattle.counting.proofs.Refusals.{chain}
-use Rattle.file_refusals.proofs.kind_refusal.Statement.{statement}
-use Rattle.file_refusals.proofs.kind_refusal.Tie as tie
+use Rattle.refusals.proofs.kind_refusal.Statement.{statement}
+use Rattle.refusals.proofs.kind_refusal.Tie as tie
 
 returns : tie.Need-returns
 returns c = search chain
