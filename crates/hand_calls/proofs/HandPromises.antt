@@ -1,41 +1,61 @@
--- The promises of a hand plan, from what its tries gave: its loads, for either kind, and the shares of a balanced one.
+-- The promises of a hand plan, from its answer: its loads, and the shares of a balanced one.
 -- Assumes nothing.
 use mathlib.Core.Path.{_≡_, sym, _∙_}
+use mathlib.Core.Bool.{true}
 use Prim.Native.Nat.{ℕ}
 use Rattle.survey.specs.Rows.{value}
 use Rattle.division.specs.Shares.{shareSum}
 use Rattle.division.proofs.Counts.{in-length}
 use Rattle.division.proofs.Best.{divide-most}
 use Rattle.balanced_plan.proofs.CountedShares.{by-counts}
-use Rattle.plans.specs.Plans.{sharesFor}
-use Rattle.loads.specs.Loads.{Within}
+use Rattle.plans.specs.Plans.{planTotal, sharesFor}
 use Rattle.refusals.specs.Inputs.{HandInput}
-use Rattle.refusals.specs.Refusals.{Tried, LoadNumbers, loadNumbers, noLoads, LoadsTaken, freeHandBy, freeHandRefusal, balancedHandBy, balancedHandRefusal}
-use Rattle.refusals.proofs.Passed.{HandPassed, loads-same, free-within, balanced-within}
+use Rattle.refusals.specs.Refusals.{Tried, LoadNumbers, loadNumbers, noLoads, handBy, handRefusal, freeHandBy, balancedHandBy, LoadsTaken}
+use Rattle.refusals.proofs.Listed.{passed}
+use Rattle.refusals.proofs.ByKind.{hand-free, hand-balanced}
+use Rattle.refusals.proofs.Passed.{hand-passed, shares-passed, loads-same}
+use Rattle.call_answers.specs.declared.Answer.{Answer}
+use Rattle.call_answers.specs.Answers.{Told, number, accepts}
+use Rattle.call_answers.proofs.Answers.{told-passed}
 use Rattle.hand_calls.specs.Passing.{LoadedHand, SharedHand}
+use Rattle.hand_calls.specs.Calls.{HandOutcome, HandTested}
 
--- ---- loads
--- any chain of tries that passes only plans within their limits
-loaded : (chain : LoadNumbers → HandInput → ℕ) (i : HandInput) (x : ℕ) → x ≡ chain (loadNumbers (i .town) (i .division) (i .loads)) i
-    → (chain (loadNumbers (i .town) (i .division) (i .loads)) i ≡ 0 → Within (i .town .m) (i .loads) (i .division)) → LoadsTaken (i .town) (i .loads)
-    → LoadedHand i (chain noLoads i) x
-loaded chain i x e within taken =
-    record {
-      only = λ z. let w = within (sym e ∙ z) in (sym (loads-same chain i taken w) ∙ sym e ∙ z, w);
-      same = λ w. e ∙ loads-same chain i taken w;
-    }
+module _ (i : HandInput) (r : Answer) (told : Told r (handRefusal i) (planTotal (i .town) (i .division))) where
+  -- a plan of either kind that passes is within its limits, and where it is, its number is the one without loads
+  loaded : LoadsTaken (i .town) (i .loads) → LoadedHand i (handBy noLoads i) (number r)
+  loaded taken =
+      let first = told .right-number in
+      record {
+        only = λ z. let w = hand-passed i (sym first ∙ z) .within in (sym (loads-same i taken w) ∙ sym first ∙ z, w);
+        same = λ w. first ∙ loads-same i taken w;
+      }
 
-module _ {i : HandInput} {x : ℕ} where
-  pub free-loaded : Tried freeHandRefusal i x → LoadsTaken (i .town) (i .loads) → LoadedHand i (freeHandBy noLoads i) x
-  free-loaded tried = loaded freeHandBy i x (tried .first) (free-within i)
+  -- a balanced one has the shares of some K sites
+  shared : i .kind ≡ 1 → accepts r ≡ true → SharedHand (i .town) (i .k) (i .division)
+  shared one y =
+      let h = shares-passed i one (hand-passed i (told-passed told y)) in
+      let t = i .town in
+      let (sites, choice, shares) = by-counts (t .n) (t .m) (i .k) (i .division) (h .some) (h .size) (h .sites) (h .larger) (h .least) in
+      let sum : shareSum (sharesFor t sites) ≡ t .n = sym (in-length (i .division) (sharesFor t sites) shares) ∙ h .size in
+      record { sites = sites; choice = choice; in-shares = shares; most = divide-most (value t) (t .n) (sharesFor t sites) sum (i .division) shares }
 
-  pub balanced-loaded : Tried balancedHandRefusal i x → LoadsTaken (i .town) (i .loads) → LoadedHand i (balancedHandBy noLoads i) x
-  balanced-loaded tried = loaded balancedHandBy i x (tried .first) (balanced-within i)
+  outcome : HandOutcome handBy i r
+  outcome = record { answer = told; loaded = loaded }
 
--- ---- shares
-pub shared-hand : {i : HandInput} → HandPassed i → SharedHand (i .town) (i .k) (i .division)
-shared-hand {i} h =
-    let t = i .town in
-    let (sites, choice, shares) = by-counts (t .n) (t .m) (i .k) (i .division) (h .some) (h .size) (h .sites) (h .larger) (h .least) in
-    let sum : shareSum (sharesFor t sites) ≡ t .n = sym (in-length (i .division) (sharesFor t sites) shares) ∙ h .size in
-    record { sites = sites; choice = choice; in-shares = shares; most = divide-most (value t) (t .n) (sharesFor t sites) sum (i .division) shares }
+  -- the same outcome by another name of the chain
+  outcome-as : (chain : LoadNumbers → HandInput → ℕ) → ((loads : LoadNumbers) → handBy loads i ≡ chain loads i) → HandOutcome chain i r
+  outcome-as chain e =
+      record { answer = rw (e (loadNumbers (i .town) (i .division) (i .loads))) at told; loaded = rw (e noLoads) at loaded }
+
+  pub hand-tested : HandTested i r
+  hand-tested =
+      record {
+        outcome = outcome;
+        free = λ z. outcome-as freeHandBy (λ loads. hand-free loads i z);
+        balanced = λ z. outcome-as balancedHandBy (λ loads. hand-balanced loads i z);
+        shared = shared;
+      }
+
+-- the claim of a plan that passes is its total
+pub hand-claimed : {i : HandInput} {x : ℕ} → Tried handRefusal i x → x ≡ 0 → i .claimed ≡ planTotal (i .town) (i .division)
+hand-claimed {i} tried z = hand-passed i (passed tried z) .right

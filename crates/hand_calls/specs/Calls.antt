@@ -1,26 +1,28 @@
--- What the tests of hand-made plans promise, each in one record, on every input.
+-- What the test of a hand-made plan promises, in one record, on every input.
 -- Assumes nothing.
+use Prim.Native.Nat.{ℕ}
 use mathlib.Core.Path.{_≡_}
 use mathlib.Core.Bool.{true}
 use Rattle.plans.specs.Plans.{planTotal}
 use Rattle.refusals.specs.Inputs.{HandInput}
-use Rattle.refusals.specs.Refusals.{noLoads, freeHandBy, freeHandRefusal, balancedHandBy, balancedHandRefusal, LoadsTaken}
+use Rattle.refusals.specs.Refusals.{LoadNumbers, loadNumbers, noLoads, LoadsTaken, handBy, freeHandBy, balancedHandBy}
 use Rattle.call_answers.specs.declared.Answer.{Answer}
 use Rattle.call_answers.specs.Answers.{Told, number, accepts}
 use Rattle.hand_calls.specs.Passing.{LoadedHand, SharedHand}
 
--- test of a hand-made plan, free
-pub record FreeHandTested (i : HandInput) (r : Answer) : Type 0 where
+-- the outcome of a test by its chain of tries
+pub record HandOutcome (chain : LoadNumbers → HandInput → ℕ) (i : HandInput) (r : Answer) : Type 0 where
   -- the first number that applies, or the plan's total
-  pub answer : Told r (freeHandRefusal i) (planTotal (i .town) (i .division))
+  pub answer : Told r (chain (loadNumbers (i .town) (i .division) (i .loads)) i) (planTotal (i .town) (i .division))
   -- with no load or limit refused, it passes exactly where it passes without loads and each site's two sums are within its limits
-  pub loaded : LoadsTaken (i .town) (i .loads) → LoadedHand i (freeHandBy noLoads i) (number r)
+  pub loaded : LoadsTaken (i .town) (i .loads) → LoadedHand i (chain noLoads i) (number r)
 
--- or balanced
-pub record BalancedHandTested (i : HandInput) (r : Answer) : Type 0 where
-  -- the first number that applies, or the plan's total
-  pub answer : Told r (balancedHandRefusal i) (planTotal (i .town) (i .division))
-  -- with no load or limit refused, it passes exactly where it passes without loads and each site's two sums are within its limits
-  pub loaded : LoadsTaken (i .town) (i .loads) → LoadedHand i (balancedHandBy noLoads i) (number r)
-  -- a plan that passes is a division in the shares of some K sites
-  pub shared : accepts r ≡ true → SharedHand (i .town) (i .k) (i .division)
+-- test of a hand-made plan
+pub record HandTested (i : HandInput) (r : Answer) : Type 0 where
+  -- by the chain of its kind
+  pub outcome : HandOutcome handBy i r
+  -- for kind 0 the outcome is that of the free plan's test, and for kind 1 that of the balanced plan's
+  pub free : i .kind ≡ 0 → HandOutcome freeHandBy i r
+  pub balanced : i .kind ≡ 1 → HandOutcome balancedHandBy i r
+  -- a balanced plan that passes is a division in the shares of some K sites
+  pub shared : i .kind ≡ 1 → accepts r ≡ true → SharedHand (i .town) (i .k) (i .division)

@@ -1,3 +1,3 @@
 pub mod OwnTests
-pub mod FreePromises
-pub mod BalancedPromises
+pub mod GoodPlans
+pub mod PlanPromises

@@ -4,7 +4,7 @@ use mathlib.Core.Path.{_≡_, refl, sym, ap, _∙_}
 use mathlib.Core.Bool.{true}
 use mathlib.Core.Logic.{⊎-elim}
 use mathlib.Core.List.{List}
-use Prim.Native.Nat.{ℕ, zero, suc, _≤_, _<_}
+use Prim.Native.Nat.{ℕ, zero, suc, _≤_, _<_, zero-le}
 use native.Mathlib.Nat.{eq-zero-or-pos}
 use native.Mathlib.Omega.{arith}
 use lib.Dec.{ltb, eqb}
@@ -29,9 +29,10 @@ use Rattle.division.proofs.Best.{divide-length}
 use Rattle.free_plan.specs.Greedy.{goesTo}
 use Rattle.free_plan.proofs.Sites.{goes-chosen}
 use Rattle.free_results.proofs.Scored.{served-total}
-use Rattle.refusals.specs.Refusals.{sitesWith, freeHandBy, freeHandRefusal, balancedHandBy, balancedHandRefusal}
+use Rattle.refusals.specs.Refusals.{sitesWith}
 use Rattle.refusals.proofs.Listed.{enough}
-use Rattle.refusals.proofs.Passed.{free-passed, balanced-passed, loads-same}
+use Rattle.refusals.proofs.ByKind.{free-tries, balanced-tries}
+use Rattle.refusals.proofs.Passed.{hand-passes, used-none, shares-none, loads-same}
 use Rattle.refusals.specs.Inputs.{handOf}
 use Rattle.plans.specs.Plans.{listTotal, freeDivision, planTotal, sharesFor, balancedDivision}
 use Rattle.plan_calls.specs.Good.{PassesTest}
@@ -67,11 +68,12 @@ module _ (t : Town) (k own : ℕ) (ok : surveyRefusal t k own ≡ 0) (sites : Li
       (⊎-elim (λ z. omega (arith, z)) (λ p. plan .sites (goes s) (goes-chosen (listOfStreet t s) sites p) .1) (eq-zero-or-pos (goes s)))
 
   -- the free division with the total of the sites passes
-  pub free-list-passes : PassesTest freeHandRefusal t k (freeDivision t sites) (listTotal t sites)
+  pub free-list-passes : PassesTest 0 t k (freeDivision t sites) (listTotal t sites)
   free-list-passes loads taken w =
-      let i = handOf t k (freeDivision t sites) (listTotal t sites) loads in
-      loads-same freeHandBy i taken w
-      ∙ free-passed i own ok (listOf-length (t .n) goes) (sym (served-total t sites (accepted t k own ok .sound-scores))) low few
+      let i = handOf t k 0 (freeDivision t sites) (listTotal t sites) loads in
+      loads-same i taken w
+      ∙ hand-passes i own ok (listOf-length (t .n) goes) (sym (served-total t sites (accepted t k own ok .sound-scores))) (free-tries 0 (t .n) k refl)
+      (λ s l. (zero-le, low s l)) (used-none i few)
 
   -- ---- the balanced division
   module _ (passes : shareRefusal (t .n) k ≡ 0) (in-shares : InShares (balancedDivision t sites) (sharesFor t sites)) where
@@ -107,11 +109,11 @@ module _ (t : Town) (k own : ℕ) (ok : surveyRefusal t k own ≡ 0) (sites : Li
     some-share = least-some (t .n) k some-site (enough (t .n) k passes)
 
     -- the balanced division with its own total passes
-    pub balanced-list-passes : PassesTest balancedHandRefusal t k (balancedDivision t sites) (planTotal t (balancedDivision t sites))
+    pub balanced-list-passes : PassesTest 1 t k (balancedDivision t sites) (planTotal t (balancedDivision t sites))
     balanced-list-passes loads taken w =
-        let i = handOf t k D (planTotal t D) loads in
-        loads-same balancedHandBy i taken w
-        ∙ balanced-passed i own ok length-D refl passes
+        let i = handOf t k 1 D (planTotal t D) loads in
+        loads-same i taken w
+        ∙ hand-passes i own ok length-D refl (balanced-tries 1 (t .n) k refl ∙ passes)
         (λ s l. served (at D s) (has-share D (sharesFor t sites) in-shares s (omega (arith, length-D))))
-        (shared (suc (leastShare (t .n) k)) (omega arith) ∙ larger-rounds (t .n) k some-site)
-        (shared (leastShare (t .n) k) some-share ∙ least-rounds (t .n) k some-site)
+        (shares-none i (shared (suc (leastShare (t .n) k)) (omega arith) ∙ larger-rounds (t .n) k some-site)
+        (shared (leastShare (t .n) k) some-share ∙ least-rounds (t .n) k some-site))

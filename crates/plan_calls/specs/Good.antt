@@ -8,13 +8,14 @@ use Rattle.survey.specs.Town.{Town}
 use Rattle.plans.specs.Plans.{listTotal, planTotal, planFloor}
 use Rattle.plans.specs.Best.{BestDivision}
 use Rattle.loads.specs.Loads.{Loads, Within}
-use Rattle.refusals.specs.Inputs.{HandInput, handOf}
-use Rattle.refusals.specs.Refusals.{LoadsTaken, freeHandRefusal, balancedHandRefusal}
+use Rattle.refusals.specs.Inputs.{handOf}
+use Rattle.refusals.specs.Refusals.{LoadsTaken, handRefusal}
 
--- a plan passes a test of hand plans, whatever its streets bring, if no load or limit is refused and each site's two sums are within its limits
-abbrev pub PassesTest : (HandInput → ℕ) → Town → ℕ → List ℕ → ℕ → Type 0
-PassesTest test t k division reported =
-    (loads : Loads) → LoadsTaken t loads → Within (t .m) loads division → test (handOf t k division reported loads) ≡ 0
+-- a plan of a kind passes the test of a hand plan of that kind, whatever its streets bring, if no load or limit is refused and each site's two sums are
+-- within its limits
+abbrev pub PassesTest : ℕ → Town → ℕ → List ℕ → ℕ → Type 0
+PassesTest kind t k division reported =
+    (loads : Loads) → LoadsTaken t loads → Within (t .m) loads division → handRefusal (handOf t k kind division reported loads) ≡ 0
 
 -- a free plan of k sites with the total that it reports
 pub record GoodFree (t : Town) (k : ℕ) (division chosen : List ℕ) (reported : ℕ) : Type 0 where
@@ -26,7 +27,7 @@ pub record GoodFree (t : Town) (k : ℕ) (division chosen : List ℕ) (reported 
   -- no choice of k sites is better by more than the bound says: K ^ K * (T - S) ≤ (K - 1) ^ K * T
   pub bound : (other : List ℕ) → Choice (t .m) k other → k ^ k * (listTotal t other - reported) ≤ (k - 1) ^ k * listTotal t other
   -- the plan passes the test of a free hand plan
-  pub passes : PassesTest freeHandRefusal t k division reported
+  pub passes : PassesTest 0 t k division reported
 
 -- a balanced plan of k sites with the total that it reports
 pub record GoodBalanced (t : Town) (k : ℕ) (division chosen : List ℕ) (reported : ℕ) : Type 0 where
@@ -37,4 +38,4 @@ pub record GoodBalanced (t : Town) (k : ℕ) (division chosen : List ℕ) (repor
   -- the total is at least the floor
   pub floor : planFloor t k ≤ reported
   -- the plan passes the test of a balanced hand plan
-  pub passes : PassesTest balancedHandRefusal t k division reported
+  pub passes : PassesTest 1 t k division reported

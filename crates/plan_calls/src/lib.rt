@@ -1,44 +1,29 @@
-// The calls that make a plan, free or balanced, and the floor.
+// The call that makes a plan, free or balanced, and the floor.
 use call_answers::Answer;
 ghost use Rattle.survey.specs.Town.{is};
 ghost use Rattle.refusals.specs.Inputs.{surveyLent, planLent};
-ghost use Rattle.plan_calls.specs.Calls.{FreePlanned, BalancedPlanned, FloorGiven};
+ghost use Rattle.plan_calls.specs.Calls.{Planned, FloorGiven};
 
-// The free plan of k sites, into buffers of n and of k bytes. Refuses with 1, 2, 3, 6, 8, 9, 10 or 11.
-pub fn free_plan(
+// The plan of k sites, free for kind 0 and balanced for kind 1, into buffers of n and of k bytes. In a balanced one every site gets its share of the
+// streets, n / k, and the first n % k chosen sites get one street more each. Refuses with 1, 2, 3, 4, 5 (balanced), 6, 8, 9, 10 or 11.
+pub fn plan(
     n: usize,
     m: usize,
     k: usize,
+    kind: usize,
     scores: &[u16],
     rows: &[u8],
     division: &mut [u8],
     chosen: &mut [u8],
 ) -> Answer
-    ensures { λ r. ⌜ FreePlanned (planLent n m k scores rows division chosen) (is division) (is chosen) r ⌝ }
+    ensures { λ r. ⌜ Planned (planLent n m k kind scores rows division chosen) (is division) (is chosen) r ⌝ }
 {
-    let x = refusals::free_plan_refusal(n, m, k, scores, rows, division, chosen);
+    let x = refusals::plan_refusal(n, m, k, kind, scores, rows, division, chosen);
     if x != 0 {
         return Answer::Refused(x);
     }
-    Answer::Total(free_results::plan(n, m, scores, rows, division, chosen))
-}
-
-// The balanced plan of k sites, into buffers of n and of k bytes: every site gets its share of the streets, n / k, and the first n % k chosen sites get
-// one street more each. Refuses with 1, 2, 3, 5, 6, 8, 9, 10 or 11.
-pub fn balanced_plan(
-    n: usize,
-    m: usize,
-    k: usize,
-    scores: &[u16],
-    rows: &[u8],
-    division: &mut [u8],
-    chosen: &mut [u8],
-) -> Answer
-    ensures { λ r. ⌜ BalancedPlanned (planLent n m k scores rows division chosen) (is division) (is chosen) r ⌝ }
-{
-    let x = refusals::balanced_plan_refusal(n, m, k, scores, rows, division, chosen);
-    if x != 0 {
-        return Answer::Refused(x);
+    if kind == 0 {
+        return Answer::Total(free_results::plan(n, m, scores, rows, division, chosen));
     }
     Answer::Total(balanced_results::plan(n, m, scores, rows, division, chosen))
 }

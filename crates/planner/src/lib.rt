@@ -17,13 +17,11 @@ pub use list_calls::free_division;
 pub use list_calls::list_total;
 
 // plans
-pub use plan_calls::balanced_plan;
 pub use plan_calls::floor;
-pub use plan_calls::free_plan;
+pub use plan_calls::plan;
 
 // hand-made plans
-pub use hand_calls::balanced_hand;
-pub use hand_calls::free_hand;
+pub use hand_calls::hand_plan;
 
 // survey files
 pub use file_calls::Read;

@@ -12,8 +12,8 @@ ghost use Rattle.refusals.specs.Inputs.{surveyLent, rowLent, listLent, division
 ghost use Rattle.call_answers.specs.Answers.{number, total};
 ghost use Rattle.survey_calls.specs.Calls.{checkedNumber, SurveyChecked, RowScored};
 ghost use Rattle.list_calls.specs.Calls.{FreeDivided, BalancedDivided, ListTotalled};
-ghost use Rattle.plan_calls.specs.Calls.{FreePlanned, BalancedPlanned, FloorGiven};
-ghost use Rattle.hand_calls.specs.Calls.{FreeHandTested, BalancedHandTested};
+ghost use Rattle.plan_calls.specs.Calls.{Planned, FloorGiven};
+ghost use Rattle.hand_calls.specs.Calls.{HandTested};
 ghost use Rattle.file_calls.specs.Calls.{FileWritten};
 ghost use Rattle.planner_c.specs.Packed.{version, packed, PacksChecked, PacksAnswer, sizesWere, sizesAre, FileReadInto};
 
@@ -49,7 +49,7 @@ fn packed_answer(answer: Answer) -> u64
 pub extern "C" fn planner_version() -> u32
     ensures { λ r. ⌜ r ≡ version ⌝ }
 {
-    202602
+    202603
 }
 
 // Checks a survey of n streets and m sites of which k are to be chosen; its total is 0.
@@ -126,36 +126,22 @@ pub extern "C" fn planner_balanced_division(
     packed_answer(planner::balanced_division(n, m, scores, rows, sites, division))
 }
 
-// The free plan of k sites, into buffers of n and of k bytes.
+// The plan of k sites, free for kind 0 and balanced for kind 1, into buffers of n and of k bytes. In a balanced one every site gets its share, the
+// first chosen sites one street more.
 #[no_mangle]
-pub extern "C" fn planner_free_plan(
+pub extern "C" fn planner_plan(
     n: usize,
     m: usize,
     k: usize,
+    kind: usize,
     scores: &[u16],
     rows: &[u8],
     division: &mut [u8],
     chosen: &mut [u8],
 ) -> u64
-    ensures { λ r. ⌜ PacksAnswer (FreePlanned (planLent n m k scores rows division chosen) (is division) (is chosen)) r ⌝ }
+    ensures { λ r. ⌜ PacksAnswer (Planned (planLent n m k kind scores rows division chosen) (is division) (is chosen)) r ⌝ }
 {
-    packed_answer(planner::free_plan(n, m, k, scores, rows, division, chosen))
-}
-
-// The balanced plan of k sites, into buffers of n and of k bytes: every site gets its share, the first chosen sites one street more.
-#[no_mangle]
-pub extern "C" fn planner_balanced_plan(
-    n: usize,
-    m: usize,
-    k: usize,
-    scores: &[u16],
-    rows: &[u8],
-    division: &mut [u8],
-    chosen: &mut [u8],
-) -> u64
-    ensures { λ r. ⌜ PacksAnswer (BalancedPlanned (planLent n m k scores rows division chosen) (is division) (is chosen)) r ⌝ }
-{
-    packed_answer(planner::balanced_plan(n, m, k, scores, rows, division, chosen))
+    packed_answer(planner::plan(n, m, k, kind, scores, rows, division, chosen))
 }
 
 // The floor: what every balanced plan of k sites totals at least.
@@ -166,13 +152,14 @@ pub extern "C" fn planner_floor(n: usize, m: usize, k: usize, scores: &[u16], ro
     packed_answer(planner::floor(n, m, k, scores, rows))
 }
 
-// Tests a hand-made free plan: the site of each street, 0 for none, and the total that is claimed for it. Each street brings kilograms and litres,
-// and each site has a limit of both.
+// Tests a hand-made plan, free for kind 0 and balanced for kind 1: the site of each street, in a free one 0 for none, and the total that is claimed
+// for it. Each street brings kilograms and litres, and each site has a limit of both.
 #[no_mangle]
-pub extern "C" fn planner_free_hand(
+pub extern "C" fn planner_hand_plan(
     n: usize,
     m: usize,
     k: usize,
+    kind: usize,
     scores: &[u16],
     rows: &[u8],
     division: &[u8],
@@ -182,44 +169,14 @@ pub extern "C" fn planner_free_hand(
     kilogram_limits: &[u32],
     litre_limits: &[u32],
 ) -> u64
-    ensures { λ r. ⌜ PacksAnswer (FreeHandTested (handLent n m k scores rows division claimed kilograms litres «kilogram_limits» «litre_limits»)) r ⌝ }
+    ensures { λ r. ⌜ PacksAnswer
+        (HandTested (handLent n m k kind scores rows division claimed kilograms litres «kilogram_limits» «litre_limits»)) r ⌝ }
 {
-    packed_answer(planner::free_hand(
+    packed_answer(planner::hand_plan(
         n,
         m,
         k,
-        scores,
-        rows,
-        division,
-        claimed,
-        kilograms,
-        litres,
-        kilogram_limits,
-        litre_limits,
-    ))
-}
-
-// Tests a hand-made balanced plan: k sites with the shares of a balanced plan, and the total that is claimed for it; loads as above.
-#[no_mangle]
-pub extern "C" fn planner_balanced_hand(
-    n: usize,
-    m: usize,
-    k: usize,
-    scores: &[u16],
-    rows: &[u8],
-    division: &[u8],
-    claimed: u32,
-    kilograms: &[u32],
-    litres: &[u32],
-    kilogram_limits: &[u32],
-    litre_limits: &[u32],
-) -> u64
-    ensures { λ r. ⌜ PacksAnswer (BalancedHandTested (handLent n m k scores rows division claimed kilograms litres «kilogram_limits» «litre_limits»)) r ⌝ }
-{
-    packed_answer(planner::balanced_hand(
-        n,
-        m,
-        k,
+        kind,
         scores,
         rows,
         division,

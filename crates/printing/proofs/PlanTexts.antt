@@ -7,23 +7,23 @@ use Prim.Native.Nat.{ℕ, zero, suc, _≤_}
 use native.Mathlib.Nat.{suc-ne-zero}
 use native.Mathlib.Omega.{arith}
 use lib.ListN.{length}
-use borrow.Author.Tests.{ne-eqb}
 use Rattle.counting.specs.Bounds.{mostStreets, mostSites}
-use Rattle.counting.specs.Words.{_when_, _unless_, _orElse_}
+use Rattle.counting.specs.Words.{_when_, _orElse_}
 use Rattle.counting.specs.Buffers.{after}
 use Rattle.counting.proofs.Refusals.{or-zero, own-pass, or-none}
 use Rattle.survey.specs.Town.{Town}
-use Rattle.survey.specs.Refusals.{streetsRefusal, sitesRefusal, chosenRefusal, shareRefusal, surveyRefusal}
+use Rattle.survey.specs.Refusals.{streetsRefusal, sitesRefusal, chosenRefusal, surveyRefusal}
 use Rattle.survey_file.proofs.Tries.{both, as-due}
+use Rattle.plans.specs.Plans.{planOfKind}
 use Rattle.refusals.specs.Inputs.{PlanInput}
-use Rattle.refusals.specs.Refusals.{buffersRefusal, freePlanRefusal, balancedPlanRefusal}
+use Rattle.refusals.specs.Refusals.{buffersRefusal, planKindRefusal, planRefusal}
 use Rattle.refusals.proofs.Listed.{called}
 use Rattle.call_answers.specs.declared.Answer.{Answer}
 use Rattle.call_answers.specs.declared.Answer.the-variants as answer
 use Rattle.call_answers.specs.Answers.{Told}
-use Rattle.plan_calls.specs.Calls.{FreePlanned, BalancedPlanned}
+use Rattle.plan_calls.specs.Calls.{Planned}
 use Rattle.listing.specs.Listing.{listing, refusedLine}
-use Rattle.printing.specs.Texts.{freeListing, balancedListing, unlessRefused, answerText, planText}
+use Rattle.printing.specs.Texts.{planListing, unlessRefused, answerText, planText}
 use Rattle.printing.specs.Asked.{SurveyAsked, PlanAsked, ListingAsked}
 
 -- an answer's text is that of its first refusal x, and else that of its total and of what is new in the buffers
@@ -58,7 +58,7 @@ survey-few {t} {k} asked =
     let ok = called t k _ (asked .sound) in
     (ok .survey .few-streets, ok .survey .few-sites, omega (arith, ok .few, ok .survey .few-sites))
 
-module _ {i : PlanInput} {kind : ℕ} (asked : PlanAsked i kind) where
+module _ {i : PlanInput} (asked : PlanAsked i) where
   -- a plan that was made in the buffers can be listed
   pub listing-asked : {division chosen : List ℕ} → length division ≡ length (i .division) → length chosen ≡ length (i .chosen)
       → ListingAsked (i .town .m) (i .town .rows) chosen division
@@ -77,33 +77,17 @@ module _ {i : PlanInput} {kind : ℕ} (asked : PlanAsked i kind) where
   buffers-none : buffersRefusal (i .town .n) (i .k) (i .division) (i .chosen) ≡ 0
   buffers-none = both _ _ (as-due 6 (length (i .division)) (i .town .n) (asked .streets)) (as-due 6 (length (i .chosen)) (i .k) (asked .sites))
 
-  -- so that the free plan is accepted, and of the balanced plan the shares decide
-  free-accepted : freePlanRefusal i ≡ 0
-  free-accepted = survey-own (i .town) (i .k) _ _ (asked .survey .sound) ∙ buffers-none
+  -- so that what is tried by the kind decides
+  kind-decides : planRefusal i ≡ planKindRefusal (i .kind) (i .town .n) (i .k)
+  kind-decides =
+      let tries : ℕ = planKindRefusal (i .kind) (i .town .n) (i .k) in
+      survey-own (i .town) (i .k) _ _ (asked .survey .sound) ∙ ap (λ (y : ℕ). tries orElse y) buffers-none ∙ or-none tries
 
-  balanced-decided : balancedPlanRefusal i ≡ shareRefusal (i .town .n) (i .k)
-  balanced-decided =
-      let shares : ℕ = shareRefusal (i .town .n) (i .k) in
-      survey-own (i .town) (i .k) _ _ (asked .survey .sound) ∙ ap (λ (y : ℕ). shares orElse y) buffers-none ∙ or-none shares
-
-  text-free : kind ≡ 0 → planText (i .town) (i .k) kind ≡ freeListing (i .town) (i .k)
-  unfolding planText _unless_
-  text-free z = rw z
-
-  text-balanced : (kind ≡ 0 → ⊥)
-      → planText (i .town) (i .k) kind ≡ unlessRefused (shareRefusal (i .town .n) (i .k)) (balancedListing (i .town) (i .k))
-  unfolding planText _unless_
-  text-balanced h = rw (ne-eqb kind 0 h)
-
-  -- what the calls gave is the text
-  pub free-text : {division chosen : List ℕ} {r : Answer} → kind ≡ 0 → FreePlanned i division chosen r
-      → answerText r (i .town .m) (i .town .rows) chosen division ≡ planText (i .town) (i .k) kind
-  free-text {r = r} z plan =
-      answered-text r (freePlanRefusal i) _ _ _ _ _ _ (plan .answer) (plan .sites) (plan .streets)
-      ∙ ap (λ (y : ℕ). unlessRefused y (freeListing (i .town) (i .k))) free-accepted ∙ sym (text-free z)
-
-  pub balanced-text : {division chosen : List ℕ} {r : Answer} → (kind ≡ 0 → ⊥) → BalancedPlanned i division chosen r
-      → answerText r (i .town .m) (i .town .rows) chosen division ≡ planText (i .town) (i .k) kind
-  balanced-text {r = r} h plan =
-      answered-text r (balancedPlanRefusal i) _ _ _ _ _ _ (plan .answer) (plan .sites) (plan .streets)
-      ∙ ap (λ (y : ℕ). unlessRefused y (balancedListing (i .town) (i .k))) balanced-decided ∙ sym (text-balanced h)
+  -- what the call gave is the text
+  pub plan-text : {division chosen : List ℕ} {r : Answer} → Planned i division chosen r
+      → answerText r (i .town .m) (i .town .rows) chosen division ≡ planText (i .town) (i .k) (i .kind)
+  unfolding planText
+  plan-text {r = r} plan =
+      let o = plan .outcome in
+      answered-text r (planRefusal i) _ _ _ _ _ _ (o .answer) (o .sites) (o .streets)
+      ∙ ap (λ (y : ℕ). unlessRefused y (planListing (i .town) (planOfKind (i .kind) (i .town) (i .k)))) kind-decides

@@ -15,8 +15,8 @@ pub record SurveyAsked (t : Town) (k kind : ℕ) : Type 0 where
   pub sound : surveyRefusal t k (kindRefusal kind) ≡ 0
 
 -- the same with the plan's two buffers, of the right lengths
-pub record PlanAsked (i : PlanInput) (kind : ℕ) : Type 0 where
-  pub survey : SurveyAsked (i .town) (i .k) kind
+pub record PlanAsked (i : PlanInput) : Type 0 where
+  pub survey : SurveyAsked (i .town) (i .k) (i .kind)
   pub streets : length (i .division) ≡ i .town .n
   pub sites : length (i .chosen) ≡ i .k
 

@@ -16,26 +16,6 @@ ghost use Rattle.printing.specs.Asked.{PlanAsked, ListingAsked, surveyHe
 // A buffer of so many bytes has room for every text: 400 streets have lines of at most 19 bytes each.
 pub const TEXT: usize = 8192;
 
-// The plan of a kind, 0 free and 1 balanced.
-fn plan_of(
-    kind: usize,
-    n: usize,
-    m: usize,
-    k: usize,
-    scores: &[u16],
-    rows: &[u8],
-    division: &mut [u8],
-    chosen: &mut [u8],
-) -> Answer
-    requires { ⌜ PlanAsked (planOf (townOf n m (now scores) (now rows)) k (now division) (now chosen)) kind ⌝ }
-    ensures { λ r. ⌜ answerText r m (was rows) (is chosen) (is division) ≡ planText (town n m scores rows) k kind ⌝ }
-{
-    if kind == 0 {
-        return planner::free_plan(n, m, k, scores, rows, division, chosen);
-    }
-    planner::balanced_plan(n, m, k, scores, rows, division, chosen)
-}
-
 // The text of a plan's answer.
 fn write_answer(
     answer: Answer,
@@ -64,30 +44,30 @@ fn write_answer(
 
 // The text of an accepted survey; its plan is made in the two buffers.
 fn print_plan(
-    kind: usize,
     n: usize,
     m: usize,
     k: usize,
+    kind: usize,
     scores: &[u16],
     rows: &[u8],
     division: &mut [u8],
     chosen: &mut [u8],
     out: &mut [u8],
 ) -> usize
-    requires { ⌜ PlanAsked (planOf (townOf n m (now scores) (now rows)) k (now division) (now chosen)) kind ⌝ }
+    requires { ⌜ PlanAsked (planOf (townOf n m (now scores) (now rows)) k kind (now division) (now chosen)) ⌝ }
     requires { ⌜ mostText ≤ length (now out) ⌝ }
     ensures { λ r. ⌜ Written (was out) 0 (planText (town n m scores rows) k kind) (is out) r ⌝ }
 {
-    let answer = plan_of(kind, n, m, k, scores, rows, division, chosen);
+    let answer = planner::plan(n, m, k, kind, scores, rows, division, chosen);
     write_answer(answer, m, rows, chosen, division, out)
 }
 
 // The text of an accepted survey, whose scores and rows are the fronts of two buffers.
 fn print_survey<'a>(
-    kind: usize,
     n: usize,
     m: usize,
     k: usize,
+    kind: usize,
     scores: &'a [u16],
     rows: &'a [u8],
     out: &mut [u8],
@@ -100,10 +80,10 @@ fn print_survey<'a>(
     let mut chosen = [0u8; Survey::SITES];
     let size = n * m;
     print_plan(
-        kind,
         n,
         m,
         k,
+        kind,
         &scores[..m],
         &rows[..size],
         &mut division[..n],
@@ -119,10 +99,10 @@ fn print_held(survey: Survey, out: &mut [u8]) -> usize
     ensures { λ r. ⌜ Written (was out) 0 (planText (townHeld survey) (survey .k) (survey .kind)) (is out) r ⌝ }
 {
     print_survey(
-        survey.kind,
         survey.n,
         survey.m,
         survey.k,
+        survey.kind,
         &survey.scores,
         &survey.rows,
         out,

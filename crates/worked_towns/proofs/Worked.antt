@@ -12,15 +12,15 @@ use Rattle.counting.specs.Lists.{count}
 use Rattle.counting.specs.Greatest.{seek, greatest}
 use Rattle.counting.specs.Buffers.{joined, laid, after}
 use Rattle.survey.specs.Town.{Town}
-use Rattle.refusals.specs.Inputs.{SurveyInput, PlanInput, planOf}
-use Rattle.refusals.specs.Refusals.{freePlanRefusal, balancedPlanRefusal}
-use Rattle.plans.specs.Plans.{listTotal, freeDivision, freeSites, planTotal, balancedDivision, balancedSites}
+use Rattle.refusals.specs.Inputs.{SurveyInput, planOf}
+use Rattle.refusals.specs.Refusals.{planRefusal}
+use Rattle.plans.specs.Plans.{listTotal, freeDivision, freeSites, planTotal, balancedDivision, balancedSites, planOfKind}
 use Rattle.division.specs.Shares.{share, less, divisionTotal}
 use Rattle.division.specs.Divide.{divide}
 use Rattle.balanced_plan.specs.Rounds.{ordered, rounds}
 use Rattle.survey_file.specs.Encode.{encode}
 use Rattle.survey_file.specs.Decode.{past, fileRefusal}
-use Rattle.worked_towns.specs.Lines.{Line, FreePlan, BalancedPlan, Fact, Number, Bytes, AtMost, Says, AllSay, Holds, AllHold, same, test, tests, facts, testLines, blank}
+use Rattle.worked_towns.specs.Lines.{Line, OfKind, Fact, Number, Bytes, AtMost, Says, AllSay, Holds, AllHold, same, test, tests, facts, testLines, blank}
 use Rattle.worked_towns.specs.Towns.{p3}
 use Rattle.worked_towns.specs.Table.{table}
 
@@ -80,21 +80,11 @@ module _ (i : SurveyInput) where
   abbrev sites-blank : List ℕ
   sites-blank = blank (i .k)
 
-  abbrev asked : PlanInput
-  asked = planOf (i .town) (i .k) streets-blank sites-blank
-
-  -- a line of a free plan that is not refused
-  pub free-line : (total : ℕ) (division chosen : List ℕ) → Holds (FreePlan i 0 total division chosen) → let sites = freeSites (i .town) (i .k) in
-      (sites ≡ chosen) × (freeDivision (i .town) sites ≡ division) × (listTotal (i .town) sites ≡ total)
-  free-line total division chosen (none, (reported, (streets, (sites, end)))) =
-      let x : ℕ = freePlanRefusal asked in
-      (new-bytes x _ sites-blank none sites, new-bytes x _ streets-blank none streets, told-total x _ none reported)
-
-  -- and of a balanced one
-  pub balanced-line : (total : ℕ) (division chosen : List ℕ) → Holds (BalancedPlan i 0 total division chosen) → let sites = balancedSites (i .town) (i .k) in
-      (sites ≡ chosen) × (balancedDivision (i .town) sites ≡ division) × (planTotal (i .town) (balancedDivision (i .town) sites) ≡ total)
-  balanced-line total division chosen (none, (reported, (streets, (sites, end)))) =
-      let x : ℕ = balancedPlanRefusal asked in
+  -- a line of a plan that is not refused
+  pub plan-line : (kind total : ℕ) (division chosen : List ℕ) → Holds (OfKind kind i 0 total division chosen)
+      → let p = planOfKind kind (i .town) (i .k) in (p .sites ≡ chosen) × (p .division ≡ division) × (p .reported ≡ total)
+  plan-line kind total division chosen (none, (reported, (streets, (sites, end)))) =
+      let x : ℕ = planRefusal (planOf (i .town) (i .k) kind streets-blank sites-blank) in
       (new-bytes x _ sites-blank none sites, new-bytes x _ streets-blank none streets, told-total x _ none reported)
 
 -- P3: sites 3, 1, total 5, street 6 unserved
@@ -103,7 +93,7 @@ town = p3 .town
 
 pub p3-free : (freeSites town 2 ≡ 3 ∷ 1 ∷ []) × (freeDivision town (freeSites town 2) ≡ 1 ∷ 1 ∷ 1 ∷ 3 ∷ 3 ∷ 0 ∷ [])
     × (listTotal town (freeSites town 2) ≡ 5)
-p3-free = free-line p3 _ _ _ (all-hold .1 .1 .1 .1 .0)
+p3-free = plan-line p3 0 _ _ _ (all-hold .1 .1 .1 .1 .0)
 
 -- sites 1, 2 give 6
 pub p3-other : (listTotal town (1 ∷ 2 ∷ []) ≡ 6)
@@ -112,4 +102,4 @@ p3-other = all-hold .1 .1 .1 .1 .1 .0 .1 .0
 -- P4: sites 1, 2, total 6
 pub p4-balanced : (balancedSites town 2 ≡ 1 ∷ 2 ∷ []) × (balancedDivision town (balancedSites town 2) ≡ 1 ∷ 1 ∷ 1 ∷ 2 ∷ 2 ∷ 2 ∷ [])
     × (planTotal town (balancedDivision town (balancedSites town 2)) ≡ 6)
-p4-balanced = balanced-line p3 _ _ _ (all-hold .1 .1 .1 .1 .1 .1 .0)
+p4-balanced = plan-line p3 1 _ _ _ (all-hold .1 .1 .1 .1 .1 .1 .0)

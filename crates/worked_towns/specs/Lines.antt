@@ -15,9 +15,9 @@ use Rattle.survey_file.specs.Encode.{encode}
 use Rattle.survey_file.specs.Decode.{fileRefusal, townIn, chosenIn, kindIn}
 use Rattle.loads.specs.Loads.{Loads, loadsOf, mostLoad}
 use Rattle.refusals.specs.Inputs.{SurveyInput, surveyOf, rowInputOf, listInputOf, divisionOf, planOf, handOf, writeOf}
-use Rattle.refusals.specs.Refusals.{checkRefusal, rowScoreRefusal, listTotalRefusal, freeDivisionRefusal, balancedDivisionRefusal, freePlanRefusal}
-use Rattle.refusals.specs.Refusals.{balancedPlanRefusal, floorRefusal, freeHandRefusal, balancedHandRefusal, writeRefusal}
-use Rattle.plans.specs.Plans.{listTotal, freeDivision, freeSites, planTotal, balancedDivision, balancedRounds, balancedSites, planFloor}
+use Rattle.refusals.specs.Refusals.{checkRefusal, rowScoreRefusal, listTotalRefusal, freeDivisionRefusal, balancedDivisionRefusal, planRefusal}
+use Rattle.refusals.specs.Refusals.{floorRefusal, handRefusal, writeRefusal}
+use Rattle.plans.specs.Plans.{listTotal, freeDivision, freeSites, planTotal, balancedDivision, balancedRounds, Plan, planOfKind, planFloor}
 
 -- a town with the number of sites to choose: n, m, K, scores, rows
 abbrev pub survey : ℕ → ℕ → ℕ → List ℕ → List ℕ → SurveyInput
@@ -30,18 +30,15 @@ pub data Line : Type 0 where
   ListTotal : SurveyInput → List ℕ → ℕ → ℕ → Line
   FreeDivision : SurveyInput → List ℕ → ℕ → ℕ → List ℕ → Line
   BalancedDivision : SurveyInput → List ℕ → ℕ → ℕ → List ℕ → Line
-  FreePlan : SurveyInput → ℕ → ℕ → List ℕ → List ℕ → Line
-  BalancedPlan : SurveyInput → ℕ → ℕ → List ℕ → List ℕ → Line
+  -- the plan of a kind
+  OfKind : ℕ → SurveyInput → ℕ → ℕ → List ℕ → List ℕ → Line
   -- total and division after the rounds
   Rounds : SurveyInput → ℕ → List ℕ → Line
   Floor : SurveyInput → ℕ → ℕ → Line
   -- the places p of the rounds: m, K, places
   Places : ℕ → ℕ → List ℕ → Line
-  FreeHand : SurveyInput → List ℕ → ℕ → ℕ → Line
-  BalancedHand : SurveyInput → List ℕ → ℕ → ℕ → Line
-  -- hand plans with loads: survey, division, claimed total, loads
-  FreeLoaded : SurveyInput → List ℕ → ℕ → Loads → ℕ → Line
-  BalancedLoaded : SurveyInput → List ℕ → ℕ → Loads → ℕ → Line
+  -- a hand plan of a kind: survey, division, claimed total, loads
+  Loaded : ℕ → SurveyInput → List ℕ → ℕ → Loads → ℕ → Line
   -- the free plan's bound against a list of K sites: K ^ K * (T - S) ≤ (K - 1) ^ K * T, where T - S and T are as given
   Bound : SurveyInput → List ℕ → ℕ → ℕ → Line
   -- a survey with its kind, and its file
@@ -63,12 +60,28 @@ blank n = replicate n 99
 abbrev pub unloaded : Town → Loads
 unloaded t = loadsOf (replicate (t .n) 0) (replicate (t .n) 0) (replicate (t .m) mostLoad) (replicate (t .m) mostLoad)
 
--- the numbers of a free and of a balanced hand plan
-abbrev pub freeHand : SurveyInput → List ℕ → ℕ → Loads → ℕ
-freeHand i division claimed loads = freeHandRefusal (handOf (i .town) (i .k) division claimed loads)
+-- a hand plan of a kind without loads
+abbrev pub Hand : ℕ → SurveyInput → List ℕ → ℕ → ℕ → Line
+Hand kind i division claimed x = Loaded kind i division claimed (unloaded (i .town)) x
 
-abbrev pub balancedHand : SurveyInput → List ℕ → ℕ → Loads → ℕ
-balancedHand i division claimed loads = balancedHandRefusal (handOf (i .town) (i .k) division claimed loads)
+-- the two kinds
+abbrev pub FreePlan : SurveyInput → ℕ → ℕ → List ℕ → List ℕ → Line
+FreePlan = OfKind 0
+
+abbrev pub BalancedPlan : SurveyInput → ℕ → ℕ → List ℕ → List ℕ → Line
+BalancedPlan = OfKind 1
+
+abbrev pub FreeHand : SurveyInput → List ℕ → ℕ → ℕ → Line
+FreeHand = Hand 0
+
+abbrev pub BalancedHand : SurveyInput → List ℕ → ℕ → ℕ → Line
+BalancedHand = Hand 1
+
+abbrev pub FreeLoaded : SurveyInput → List ℕ → ℕ → Loads → ℕ → Line
+FreeLoaded = Loaded 0
+
+abbrev pub BalancedLoaded : SurveyInput → List ℕ → ℕ → Loads → ℕ → Line
+BalancedLoaded = Loaded 1
 
 -- a call's number, and the total that comes with it
 abbrev pub reported : ℕ → ℕ → ℕ → ℕ → List Fact → List Fact
@@ -92,26 +105,17 @@ facts (BalancedDivision i sites x total division) =
     let r : ℕ = balancedDivisionRefusal (divisionOf (i .town) sites old) in
     let d : List ℕ = balancedDivision (i .town) sites in
     reported r x (planTotal (i .town) d) total (Bytes (after r d old) division ∷ [])
-facts (FreePlan i x total division chosen) =
-    let r : ℕ = freePlanRefusal (planOf (i .town) (i .k) (blank (i .town .n)) (blank (i .k))) in
-    let sites : List ℕ = freeSites (i .town) (i .k) in
-    reported r x (listTotal (i .town) sites) total
-    (Bytes (after r (freeDivision (i .town) sites) (blank (i .town .n))) division ∷ Bytes (after r sites (blank (i .k))) chosen ∷ [])
-facts (BalancedPlan i x total division chosen) =
-    let r : ℕ = balancedPlanRefusal (planOf (i .town) (i .k) (blank (i .town .n)) (blank (i .k))) in
-    let sites : List ℕ = balancedSites (i .town) (i .k) in
-    let d : List ℕ = balancedDivision (i .town) sites in
-    reported r x (planTotal (i .town) d) total
-    (Bytes (after r d (blank (i .town .n))) division ∷ Bytes (after r sites (blank (i .k))) chosen ∷ [])
+facts (OfKind kind i x total division chosen) =
+    let r : ℕ = planRefusal (planOf (i .town) (i .k) kind (blank (i .town .n)) (blank (i .k))) in
+    let p : Plan = planOfKind kind (i .town) (i .k) in
+    reported r x (p .reported) total
+    (Bytes (after r (p .division) (blank (i .town .n))) division ∷ Bytes (after r (p .sites) (blank (i .k))) chosen ∷ [])
 facts (Rounds i total division) =
     let d : List ℕ = balancedRounds (i .town) (i .k) .division in
     Number (planTotal (i .town) d) total ∷ Bytes d division ∷ []
 facts (Floor i x total) = reported (floorRefusal i) x (planFloor (i .town) (i .k)) total []
 facts (Places m k list) = places m k 0 list
-facts (FreeHand i division claimed x) = Number (freeHand i division claimed (unloaded (i .town))) x ∷ []
-facts (BalancedHand i division claimed x) = Number (balancedHand i division claimed (unloaded (i .town))) x ∷ []
-facts (FreeLoaded i division claimed loads x) = Number (freeHand i division claimed loads) x ∷ []
-facts (BalancedLoaded i division claimed loads x) = Number (balancedHand i division claimed loads) x ∷ []
+facts (Loaded kind i division claimed loads x) = Number (handRefusal (handOf (i .town) (i .k) kind division claimed loads)) x ∷ []
 facts (Bound i other missing reached) =
     let k : ℕ = i .k in
     let t : ℕ = listTotal (i .town) other in

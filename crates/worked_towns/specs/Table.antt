@@ -4,7 +4,7 @@
 use mathlib.Core.List.{List, [], _∷_, _++_}
 use lib.ListN.{replicate, set, take}
 use Rattle.worked_towns.specs.Lines.{Line, survey, Check, RowScore, ListTotal, FreeDivision, BalancedDivision, FreePlan, BalancedPlan, Rounds, Floor}
-use Rattle.worked_towns.specs.Lines.{Places, FreeHand, BalancedHand, Bound, File, Read, Write, blank}
+use Rattle.worked_towns.specs.Lines.{Places, OfKind, Hand, FreeHand, BalancedHand, Bound, File, Read, Write, blank}
 use Rattle.worked_towns.specs.Towns.{p1, p3, p5, p6, p8, riseless, crowded, level, ring, tied, alike, short, three, five, ten, few, p5file, fewfile}
 use Rattle.worked_towns.specs.Loaded.{loaded}
 
@@ -83,6 +83,26 @@ scarce =
     FreeHand (few 3) (1 ∷ 1 ∷ []) 4 0 ∷
     File (few 3) 1 fewfile ∷
     Write (few 3) 1 33 0 ∷
+    []
+
+-- a kind that is neither: 4 after 3 and before 5 and 6; 5 for the balanced kind alone, and what passes as one kind need not pass as the other
+abbrev pub kinds : List Line
+kinds =
+    OfKind 2 (p1 2) 4 0 (blank 4) (blank 2) ∷
+    OfKind 255 (p1 2) 4 0 (blank 4) (blank 2) ∷
+    OfKind 256 (p1 2) 4 0 (blank 4) (blank 2) ∷
+    OfKind 4294967296 (p1 2) 4 0 (blank 4) (blank 2) ∷
+    OfKind 2 (survey 0 65 0 [] []) 1 0 [] [] ∷
+    OfKind 2 (survey 1 65 0 [] []) 2 0 (blank 1) [] ∷
+    OfKind 2 (few 4) 3 0 (blank 2) (blank 4) ∷
+    OfKind 2 (few 3) 4 0 (blank 2) (blank 3) ∷
+    OfKind 2 (survey 1 2 2 (1 ∷ []) (1 ∷ 0 ∷ [])) 4 0 (blank 1) (blank 2) ∷
+    Hand 2 (p1 2) (1 ∷ 1 ∷ 2 ∷ 2 ∷ []) 7 4 ∷
+    Hand 256 (p1 2) (1 ∷ 1 ∷ 2 ∷ 2 ∷ []) 7 4 ∷
+    Hand 2 (few 4) (1 ∷ 1 ∷ []) 4 3 ∷
+    Hand 2 (few 3) [] 0 4 ∷
+    FreeHand (p1 2) (1 ∷ 1 ∷ 1 ∷ 2 ∷ []) 6 0 ∷
+    BalancedHand (p1 2) (1 ∷ 1 ∷ 1 ∷ 2 ∷ []) 6 18 ∷
     []
 
 -- one row, one site: a site that is not ranked scores 0, whatever the last score is
@@ -208,4 +228,4 @@ files =
 
 -- the whole table
 abbrev pub table : List Line
-table = worked ++ plans ++ uneven ++ scarce ++ scored ++ refused ++ lists ++ hand ++ unevenHand ++ loaded ++ files
+table = worked ++ plans ++ uneven ++ scarce ++ kinds ++ scored ++ refused ++ lists ++ hand ++ unevenHand ++ loaded ++ files
