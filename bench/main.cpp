@@ -78,20 +78,20 @@ void compare(const char* kind, const char* name, std::size_t k, const std::vecto
 void compareFree(std::size_t culture, std::size_t k) {
     FreePeer peer;
     compare("free", NAMES[culture], k, makeTowns(CULTURES[culture], 400, 64),
-            [&](const Town& town) { return ourPlan(planner_free_plan, town, k); }, [&](const Town& town) { return peer.plan(town, k); });
+            [&](const Town& town) { return ourPlan(PLANNER_FREE, town, k); }, [&](const Town& town) { return peer.plan(town, k); });
 }
 
 void compareBalanced(std::size_t culture, std::size_t k) {
     BalancedPeer peer(400, k);
     compare("balanced", NAMES[culture], k, makeTowns(CULTURES[culture], 400, 64),
-            [&](const Town& town) { return ourPlan(planner_balanced_plan, town, k); }, [&](const Town& town) { return peer.plan(town); });
+            [&](const Town& town) { return ourPlan(PLANNER_BALANCED, town, k); }, [&](const Town& town) { return peer.plan(town); });
 }
 
 // Our time of both plans on towns of one size.
 void grow(std::size_t n, std::size_t m, std::size_t k) {
     std::vector<Town> towns = makeTowns(Culture::Impartial, n, m);
-    double free = timeOf(towns, [&](const Town& town) { return ourPlan(planner_free_plan, town, k); });
-    double balanced = timeOf(towns, [&](const Town& town) { return ourPlan(planner_balanced_plan, town, k); });
+    double free = timeOf(towns, [&](const Town& town) { return ourPlan(PLANNER_FREE, town, k); });
+    double balanced = timeOf(towns, [&](const Town& town) { return ourPlan(PLANNER_BALANCED, town, k); });
     std::printf("n %3zu  m %2zu  K %2zu        %8.0f %8.0f\n", n, m, k, free, balanced);
 }
 

@@ -17,7 +17,7 @@
  * site, and one more to each of the first n % k. In a plan these are the sites chosen first. Over a list of sites they are the
  * list's first entries, so that the order of the list counts.
  *
- * LOADS. The tests of hand-made plans are also given what each street brings in a week, and how much of it each site can take.
+ * LOADS. The test of a hand-made plan is also given what each street brings in a week, and how much of it each site can take.
  *   kilograms, litres              n numbers of 32 bits each, those of street 1 first: what the street brings
  *   kilogram_limits, litre_limits  m numbers of 32 bits each, those of site 1 first: the limits of the site
  *   Every number is 0 to 1,000,000. A site's kilograms are the sum over the streets that go to it, and so are its litres; a sum
@@ -53,7 +53,7 @@ extern "C" {
 #endif
 
 /* The year and the number of the last request that is in, 00 for the base. planner_version() gives that of the library linked. */
-#define PLANNER_VERSION 202602
+#define PLANNER_VERSION 202603
 
 /* The greatest sizes and score, and the greatest load of a street, which is also the greatest limit of a site. */
 #define PLANNER_MAX_STREETS 400
@@ -66,15 +66,16 @@ extern "C" {
 #define PLANNER_ROWS_LENGTH 25600
 #define PLANNER_FILE_LENGTH 27739
 
-/* The kinds of plan in a survey file. */
+/* The kinds of plan, for a call and in a survey file. */
 #define PLANNER_FREE 0
 #define PLANNER_BALANCED 1
 
 /*
- * The bytes of stack that each call needs below its caller's frame, whatever it is lent; PLANNER_STACK_REFUSED is what any call
- * needs that refuses. Measured, with 256 bytes of room at least (bindings/c/stack.c), where memcpy and memset are bound when the
- * program starts: linked with -Wl,-z,now, or statically. Where they are bound at first use, that use needs more, as much as the
- * processor's registers take: 3,184 bytes were seen with AVX-512, and no test holds that. Where stack is short, link with -z now.
+ * The bytes of stack that each call needs below its caller's frame, whatever it is lent; planner_plan and planner_hand_plan have a
+ * number for each kind, and PLANNER_STACK_REFUSED is what any call needs that refuses. Measured, with 256 bytes of room at least
+ * (bindings/c/stack.c), where memcpy and memset are bound when the program starts: linked with -Wl,-z,now, or statically. Where
+ * they are bound at first use, that use needs more, as much as the processor's registers take: 3,184 bytes were seen with AVX-512,
+ * and no test holds that. Where stack is short, link with -z now.
  */
 #define PLANNER_STACK_CHECK_SURVEY 3072
 #define PLANNER_STACK_RANKED_PART 512
@@ -83,10 +84,10 @@ extern "C" {
 #define PLANNER_STACK_FREE_DIVISION 61440
 #define PLANNER_STACK_BALANCED_DIVISION 296448
 #define PLANNER_STACK_FREE_PLAN 61440
-#define PLANNER_STACK_BALANCED_PLAN 296448
+#define PLANNER_STACK_BALANCED_PLAN 299008
 #define PLANNER_STACK_FLOOR 3072
-#define PLANNER_STACK_FREE_HAND 5120
-#define PLANNER_STACK_BALANCED_HAND 5120
+#define PLANNER_STACK_FREE_HAND_PLAN 5120
+#define PLANNER_STACK_BALANCED_HAND_PLAN 5120
 #define PLANNER_STACK_WRITE_FILE 3072
 #define PLANNER_STACK_READ_FILE 1024
 #define PLANNER_STACK_REFUSED 5632
@@ -250,33 +251,23 @@ uint64_t planner_balanced_division(size_t n, size_t m,
                                    uint8_t *PLANNER_RESTRICT division, size_t division_len) PLANNER_MUST_USE;
 
 /*
- * The free plan (Chamberlin and Courant's rule, greedy): k rounds, each of which adds the site that raises the total most, the
- * lowest number on a tie; then each street goes to the chosen site that stands best in its list, and to site 0 if it has ranked
- * none.
+ * The plan of a kind. The free plan (Chamberlin and Courant's rule, greedy): k rounds, each of which adds the site that raises the
+ * total most, the lowest number on a tie; then each street goes to the chosen site that stands best in its list, and to site 0 if
+ * it has ranked none. The balanced plan (Monroe's rule, greedy): k sites chosen in rounds, each of which deals its site n / k
+ * streets, the first n % k rounds one more; then the best division over these sites in these shares, as planner_balanced_division
+ * makes it.
+ *   kind      PLANNER_FREE or PLANNER_BALANCED
  *   scores    m numbers, read      rows  n * m bytes, read
  *   division  n bytes, written: the site of each street
  *   chosen    k bytes, written: the sites in order of choice
- * Answer: the total of the chosen sites. Refuses with 1, 2, 3, 6, 8, 9, 10 or 11.
+ * Answer: the total of the chosen sites in a free plan, the division's total in a balanced one.
+ * Refuses with 1, 2, 3, 4, 6, 8, 9, 10 or 11; a balanced plan also with 5, between 4 and 6.
  */
-uint64_t planner_free_plan(size_t n, size_t m, size_t k,
-                           const uint16_t *scores, size_t scores_len,
-                           const uint8_t *rows, size_t rows_len,
-                           uint8_t *PLANNER_RESTRICT division, size_t division_len,
-                           uint8_t *PLANNER_RESTRICT chosen, size_t chosen_len) PLANNER_MUST_USE;
-
-/*
- * The balanced plan (Monroe's rule, greedy): k sites chosen in rounds, each of which deals its site n / k streets, the first n % k
- * rounds one more; then the best division over these sites in these shares, as planner_balanced_division makes it.
- *   scores    m numbers, read      rows  n * m bytes, read
- *   division  n bytes, written: the site of each street
- *   chosen    k bytes, written: the sites in order of choice
- * Answer: the division's total. Refuses with 1, 2, 3, 5, 6, 8, 9, 10 or 11.
- */
-uint64_t planner_balanced_plan(size_t n, size_t m, size_t k,
-                               const uint16_t *scores, size_t scores_len,
-                               const uint8_t *rows, size_t rows_len,
-                               uint8_t *PLANNER_RESTRICT division, size_t division_len,
-                               uint8_t *PLANNER_RESTRICT chosen, size_t chosen_len) PLANNER_MUST_USE;
+uint64_t planner_plan(size_t n, size_t m, size_t k, size_t kind,
+                      const uint16_t *scores, size_t scores_len,
+                      const uint8_t *rows, size_t rows_len,
+                      uint8_t *PLANNER_RESTRICT division, size_t division_len,
+                      uint8_t *PLANNER_RESTRICT chosen, size_t chosen_len) PLANNER_MUST_USE;
 
 /*
  * The floor: a total that the balanced plan of this survey reaches in any case.
@@ -288,16 +279,19 @@ uint64_t planner_floor(size_t n, size_t m, size_t k,
                        const uint8_t *rows, size_t rows_len) PLANNER_MUST_USE;
 
 /*
- * Tests a hand-made free plan: at most k sites are used, no site is above its limits, and the streets give their sites the
- * claimed total.
+ * Tests a hand-made plan of a kind. In a free one at most k sites are used. In a balanced one exactly n % k sites, whichever they
+ * are, have n / k + 1 streets, and exactly k - n % k have n / k. In both no site is above its limits, and the streets give their
+ * sites the claimed total.
+ *   kind      PLANNER_FREE or PLANNER_BALANCED
  *   scores    m numbers, read      rows  n * m bytes, read
- *   division  n bytes, read: the site of each street, 0 for none
+ *   division  n bytes, read: the site of each street, in a free plan 0 for none
  *   claimed   the total that is claimed for the plan
  *   kilograms, litres              n numbers each, read: what each street brings in a week
  *   kilogram_limits, litre_limits  m numbers each, read: how much of it each site can take
- * Answer: the plan's total, which the claimed one then is. Refuses with 1, 2, 3, 6, 8, 9, 10, 11, 21, 17, 18, 22, 23 or 19.
+ * Answer: the plan's total, which the claimed one then is.
+ * Refuses with 1, 2, 3, 4, 6, 8, 9, 10, 11, 21, 17, 18, 22, 23 or 19; a balanced plan also with 5, between 4 and 6.
  */
-uint64_t planner_free_hand(size_t n, size_t m, size_t k,
+uint64_t planner_hand_plan(size_t n, size_t m, size_t k, size_t kind,
                            const uint16_t *scores, size_t scores_len,
                            const uint8_t *rows, size_t rows_len,
                            const uint8_t *division, size_t division_len,
@@ -306,26 +300,6 @@ uint64_t planner_free_hand(size_t n, size_t m, size_t k,
                            const uint32_t *litres, size_t litres_len,
                            const uint32_t *kilogram_limits, size_t kilogram_limits_len,
                            const uint32_t *litre_limits, size_t litre_limits_len) PLANNER_MUST_USE;
-
-/*
- * Tests a hand-made balanced plan: exactly n % k sites, whichever they are, have n / k + 1 streets, exactly k - n % k have n / k,
- * no site is above its limits, and the streets give their sites the claimed total.
- *   scores    m numbers, read      rows  n * m bytes, read
- *   division  n bytes, read: the site of each street
- *   claimed   the total that is claimed for the plan
- *   kilograms, litres              n numbers each, read: what each street brings in a week
- *   kilogram_limits, litre_limits  m numbers each, read: how much of it each site can take
- * Answer: the plan's total, which the claimed one then is. Refuses with 1, 2, 3, 5, 6, 8, 9, 10, 11, 21, 17, 18, 22, 23 or 19.
- */
-uint64_t planner_balanced_hand(size_t n, size_t m, size_t k,
-                               const uint16_t *scores, size_t scores_len,
-                               const uint8_t *rows, size_t rows_len,
-                               const uint8_t *division, size_t division_len,
-                               uint32_t claimed,
-                               const uint32_t *kilograms, size_t kilograms_len,
-                               const uint32_t *litres, size_t litres_len,
-                               const uint32_t *kilogram_limits, size_t kilogram_limits_len,
-                               const uint32_t *litre_limits, size_t litre_limits_len) PLANNER_MUST_USE;
 
 /*
  * Writes a survey file.

@@ -26,11 +26,11 @@ static const Loads loads(1, 5), no_loads;
 
 static void plans() {
     Bytes division(1), chosen(1), empty;
-    uint64_t answer = planner_free_plan(1, 1, 1, scores.data(), scores.size(), rows.data(), rows.size(), division.data(), division.size(),
-                                        chosen.data(), chosen.size());
+    uint64_t answer = planner_plan(1, 1, 1, PLANNER_FREE, scores.data(), scores.size(), rows.data(), rows.size(),
+                                   division.data(), division.size(), chosen.data(), chosen.size());
     expect(planner_refusal(answer) == PLANNER_ACCEPTED && planner_total(answer) == 5 && division[0] == 1 && chosen[0] == 1, "a plan");
-    answer = planner_free_plan(1, 1, 1, scores.data(), scores.size(), rows.data(), rows.size(), empty.data(), empty.size(),
-                               chosen.data(), chosen.size());
+    answer = planner_plan(1, 1, 1, PLANNER_BALANCED, scores.data(), scores.size(), rows.data(), rows.size(),
+                          empty.data(), empty.size(), chosen.data(), chosen.size());
     expect(planner_refusal(answer) == PLANNER_REFUSED_BUFFER_LENGTH, "a plan into an empty division");
     answer = planner_balanced_division(1, 1, scores.data(), scores.size(), rows.data(), rows.size(), none.data(), none.size(),
                                        division.data(), division.size());
@@ -38,13 +38,13 @@ static void plans() {
 }
 
 static void hand_plans() {
-    uint64_t answer = planner_free_hand(1, 1, 1, scores.data(), scores.size(), rows.data(), rows.size(), sites.data(), sites.size(), 5,
-                                        loads.data(), loads.size(), loads.data(), loads.size(), loads.data(), loads.size(),
-                                        loads.data(), loads.size());
+    uint64_t answer = planner_hand_plan(1, 1, 1, PLANNER_FREE, scores.data(), scores.size(), rows.data(), rows.size(),
+                                        sites.data(), sites.size(), 5, loads.data(), loads.size(), loads.data(), loads.size(),
+                                        loads.data(), loads.size(), loads.data(), loads.size());
     expect(planner_refusal(answer) == PLANNER_ACCEPTED && planner_total(answer) == 5, "a hand plan with loads equal to their limits");
-    answer = planner_balanced_hand(1, 1, 1, scores.data(), scores.size(), rows.data(), rows.size(), sites.data(), sites.size(), 5,
-                                   no_loads.data(), no_loads.size(), no_loads.data(), no_loads.size(), no_loads.data(), no_loads.size(),
-                                   no_loads.data(), no_loads.size());
+    answer = planner_hand_plan(1, 1, 1, PLANNER_BALANCED, scores.data(), scores.size(), rows.data(), rows.size(),
+                               sites.data(), sites.size(), 5, no_loads.data(), no_loads.size(), no_loads.data(), no_loads.size(),
+                               no_loads.data(), no_loads.size(), no_loads.data(), no_loads.size());
     expect(planner_refusal(answer) == PLANNER_REFUSED_BUFFER_LENGTH, "a hand plan without loads");
 }
 

@@ -12,7 +12,7 @@
 
 #include "planner.h"
 
-/* The town: its sizes, the score of each place, and a row of sites for each street. */
+/* The town: its sizes and the kind of its plan, the score of each place, and a row of sites for each street. */
 static size_t n, m, k, kind;
 static uint16_t scores[PLANNER_SCORES_LENGTH];
 static uint8_t rows[PLANNER_ROWS_LENGTH];
@@ -30,14 +30,6 @@ static int refused(uint64_t answer) {
 static int failed(const char *what) {
     fprintf(stderr, "plan_file: %s: %s\n", what, strerror(errno));
     return 2;
-}
-
-/* The plan that the file asks for. */
-static uint64_t make_plan(void) {
-    if (kind == PLANNER_BALANCED) {
-        return planner_balanced_plan(n, m, k, scores, m, rows, n * m, division, n, chosen, k);
-    }
-    return planner_free_plan(n, m, k, scores, m, rows, n * m, division, n, chosen, k);
 }
 
 /* The place that a street's row gives a site, from 1 on; 0 where the street has not ranked it. */
@@ -78,7 +70,7 @@ int main(int argc, char **argv) {
 
     uint64_t answer = planner_read_file(file, length, &n, &m, &k, &kind, scores, PLANNER_SCORES_LENGTH, rows, PLANNER_ROWS_LENGTH);
     if (planner_refusal(answer) == PLANNER_ACCEPTED) {
-        answer = make_plan();
+        answer = planner_plan(n, m, k, kind, scores, m, rows, n * m, division, n, chosen, k);
     }
     int status = 0;
     if (planner_refusal(answer) == PLANNER_ACCEPTED) {

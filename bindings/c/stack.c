@@ -1,6 +1,7 @@
 /*
- * Runs every call on a stack of just the bytes that include/planner.h promises for it, and measures how many it needs. Prints what
- * fails and ends with 1, or ends with 0; with --measure it prints the numbers for the header as well. It is linked with -Wl,-z,now.
+ * Runs every call, plans and hand plans of each kind, on a stack of just the bytes that include/planner.h promises for it, and
+ * measures how many it needs. Prints what fails and ends with 1, or ends with 0; with --measure it prints the numbers for the
+ * header as well. It is linked with -Wl,-z,now.
  */
 #define _GNU_SOURCE
 #include <limits.h>
@@ -131,10 +132,10 @@ static size_t test_accepted(const struct call *call) {
     for (size_t i = 0; i < TOWNS; i++) {
         const struct town *town = &towns[i];
         char on[80];
-        if ((call->refuses & NUMBER(PLANNER_REFUSED_SHARE)) && town->n < town->k) {
+        if (kind_of(call) == PLANNER_BALANCED && town->n < town->k) {
             continue;
         }
-        make_town(town->n, town->m, town->k, town->lists);
+        make_town(town->n, town->m, town->k, kind_of(call), town->lists);
         snprintf(on, sizeof on, "town %zu (%zu streets, %zu sites, K %zu)", i, n, m, k);
         test(call, NULL, call->promise, run_measured, on);
         most = larger(most, told->depth);
@@ -148,7 +149,7 @@ static size_t test_accepted(const struct call *call) {
 /* The depth of a call that refuses, over all faults that it can meet. Both its own promise and that of a refusal have to do. */
 static size_t test_refused(const struct call *call) {
     size_t most = 0, bytes = call->promise < PLANNER_STACK_REFUSED ? call->promise : PLANNER_STACK_REFUSED;
-    make_town(towns[0].n, towns[0].m, towns[0].k, towns[0].lists);
+    make_town(towns[0].n, towns[0].m, towns[0].k, kind_of(call), towns[0].lists);
     for (size_t i = 0; i < FAULTS; i++) {
         if (call->refuses & faults[i].concerns) {
             test(call, &faults[i], bytes, run_measured, faults[i].name);

@@ -52,26 +52,17 @@ static void run_balanced_division(void) {
     answer = planner_balanced_division(n, m, scores, scores_len, rows, rows_len, sites, sites_len, division, division_len);
 }
 
-static void run_free_plan(void) {
-    answer = planner_free_plan(n, m, k, scores, scores_len, rows, rows_len, division, division_len, chosen, chosen_len);
-}
-
-static void run_balanced_plan(void) {
-    answer = planner_balanced_plan(n, m, k, scores, scores_len, rows, rows_len, division, division_len, chosen, chosen_len);
+static void run_plan(void) {
+    answer = planner_plan(n, m, k, kind, scores, scores_len, rows, rows_len, division, division_len, chosen, chosen_len);
 }
 
 static void run_floor(void) {
     answer = planner_floor(n, m, k, scores, scores_len, rows, rows_len);
 }
 
-static void run_free_hand(void) {
-    answer = planner_free_hand(n, m, k, scores, scores_len, rows, rows_len, hand, division_len, claimed, kilograms, kilograms_len,
+static void run_hand_plan(void) {
+    answer = planner_hand_plan(n, m, k, kind, scores, scores_len, rows, rows_len, hand, division_len, claimed, kilograms, kilograms_len,
                                litres, litres_len, kilogram_limits, kilogram_limits_len, litre_limits, litre_limits_len);
-}
-
-static void run_balanced_hand(void) {
-    answer = planner_balanced_hand(n, m, k, scores, scores_len, rows, rows_len, hand, division_len, claimed, kilograms, kilograms_len,
-                                   litres, litres_len, kilogram_limits, kilogram_limits_len, litre_limits, litre_limits_len);
 }
 
 static void run_write_file(void) {
@@ -90,9 +81,9 @@ static void run_read_file(void) {
 #define ROW (NUMBER(2) | NUMBER(6) | NUMBER(8) | NUMBER(9) | NUMBER(10) | NUMBER(11))
 #define SURVEY (ROW | NUMBER(1) | NUMBER(3))
 #define LIST (SURVEY | NUMBER(17) | NUMBER(20))
-#define PLAN (SURVEY | LENT_DIVISION | LENT_CHOSEN)
+#define PLAN (SURVEY | NUMBER(4) | LENT_DIVISION | LENT_CHOSEN)
 #define LOADS (LENT_LOADS | NUMBER(21) | NUMBER(22) | NUMBER(23))
-#define HAND (SURVEY | LENT_DIVISION | LOADS | NUMBER(17) | NUMBER(18) | NUMBER(19))
+#define HAND (SURVEY | NUMBER(4) | LENT_DIVISION | LOADS | NUMBER(17) | NUMBER(18) | NUMBER(19))
 #define FILE_RECORDS (NUMBER(12) | NUMBER(13) | NUMBER(14) | NUMBER(15) | NUMBER(16))
 
 static const struct call {
@@ -107,15 +98,20 @@ static const struct call {
     {"LIST_TOTAL", run_list_total, PLANNER_STACK_LIST_TOTAL, LIST},
     {"FREE_DIVISION", run_free_division, PLANNER_STACK_FREE_DIVISION, LIST | LENT_DIVISION},
     {"BALANCED_DIVISION", run_balanced_division, PLANNER_STACK_BALANCED_DIVISION, LIST | LENT_DIVISION | NUMBER(5)},
-    {"FREE_PLAN", run_free_plan, PLANNER_STACK_FREE_PLAN, PLAN},
-    {"BALANCED_PLAN", run_balanced_plan, PLANNER_STACK_BALANCED_PLAN, PLAN | NUMBER(5)},
+    {"FREE_PLAN", run_plan, PLANNER_STACK_FREE_PLAN, PLAN},
+    {"BALANCED_PLAN", run_plan, PLANNER_STACK_BALANCED_PLAN, PLAN | NUMBER(5)},
     {"FLOOR", run_floor, PLANNER_STACK_FLOOR, SURVEY | NUMBER(5)},
-    {"FREE_HAND", run_free_hand, PLANNER_STACK_FREE_HAND, HAND},
-    {"BALANCED_HAND", run_balanced_hand, PLANNER_STACK_BALANCED_HAND, HAND | NUMBER(5)},
+    {"FREE_HAND_PLAN", run_hand_plan, PLANNER_STACK_FREE_HAND_PLAN, HAND},
+    {"BALANCED_HAND_PLAN", run_hand_plan, PLANNER_STACK_BALANCED_HAND_PLAN, HAND | NUMBER(5)},
     {"WRITE_FILE", run_write_file, PLANNER_STACK_WRITE_FILE, SURVEY | NUMBER(4) | NUMBER(7)},
     {"READ_FILE", run_read_file, PLANNER_STACK_READ_FILE, (SURVEY | NUMBER(4) | FILE_RECORDS) & ~NUMBER(9)},
 };
 enum { CALLS = sizeof calls / sizeof calls[0] };
+
+/* The kind that a call is given: balanced where it refuses more sites than streets, which no free plan does. */
+static size_t kind_of(const struct call *call) {
+    return call->refuses & NUMBER(PLANNER_REFUSED_SHARE) ? PLANNER_BALANCED : PLANNER_FREE;
+}
 
 /* A site for each place of a street's list: all of them by turns, the same for every street, three names, or none. */
 enum lists { VARIED, ALIKE, THREE_NAMES, EMPTY };
@@ -146,9 +142,9 @@ static void make_loads(void) {
     }
 }
 
-/* Makes a town and what goes with it: a list of sites, a hand plan with its total and loads, and the survey file. */
-static void make_town(size_t streets, size_t all, size_t choose, enum lists lists) {
-    n = streets, m = all, k = choose, kind = PLANNER_BALANCED;
+/* Makes a town and what goes with it: a kind, a list of sites, a hand plan with its total and loads, and the survey file. */
+static void make_town(size_t streets, size_t all, size_t choose, size_t of_kind, enum lists lists) {
+    n = streets, m = all, k = choose, kind = of_kind;
     set_lengths();
     for (size_t place = 0; place < m; place++) {
         scores[place] = (uint16_t)(PLANNER_TOP_SCORE - 15 * place);

@@ -1,4 +1,4 @@
-/* Every function of include/planner.h from C, on the worked surveys P1 and P7; prints what differs and ends with 1, or ends with 0. */
+/* Every function of include/planner.h from C, on the worked surveys P1, P7 and P8; prints what differs and ends with 1, or ends with 0. */
 #include <stdio.h>
 #include <string.h>
 
@@ -13,8 +13,20 @@ static void expect(int holds, const char *what) {
     }
 }
 
+/* The same for a call of this kind. */
+static void expect_of(size_t kind, int holds, const char *what) {
+    if (!holds) {
+        printf("differs: %s, kind %zu\n", what, kind);
+        differences = 1;
+    }
+}
+
+static int refused(uint64_t answer, uint32_t number) {
+    return planner_refusal(answer) == number && planner_total(answer) == 0;
+}
+
 static void expect_refusal(uint64_t answer, uint32_t number, const char *what) {
-    expect(planner_refusal(answer) == number && planner_total(answer) == 0, what);
+    expect(refused(answer, number), what);
 }
 
 /* n 4, m 3, K 2, lists 1 2 3 / 1 3 2 / 2 1 / 3 2 1. */
@@ -27,14 +39,26 @@ static const uint8_t sites[2] = {1, 2};
 static const uint32_t nothing[4] = {0}, most[3] = {PLANNER_MOST_LOAD, PLANNER_MOST_LOAD, PLANNER_MOST_LOAD};
 #define NO_LOADS(streets) nothing, streets, nothing, streets, most, 3, most, 3
 
-static void plans(void) {
+static void plans(size_t kind) {
     uint8_t division[4] = {0}, chosen[2] = {0};
-    expect(planner_free_plan(4, 3, 2, scores, 3, rows, 12, division, 4, chosen, 2) == 7, "the free plan's total");
-    expect(!memcmp(division, plan, 4) && !memcmp(chosen, sites, 2), "the free plan");
-    memset(division, 0, 4), memset(chosen, 0, 2);
-    expect(planner_balanced_plan(4, 3, 2, scores, 3, rows, 12, division, 4, chosen, 2) == 7, "the balanced plan's total");
-    expect(!memcmp(division, plan, 4) && !memcmp(chosen, sites, 2), "the balanced plan");
-    memset(division, 0, 4);
+    expect_of(kind, planner_plan(4, 3, 2, kind, scores, 3, rows, 12, division, 4, chosen, 2) == 7, "the plan's total");
+    expect_of(kind, !memcmp(division, plan, 4) && !memcmp(chosen, sites, 2), "the plan");
+    expect_of(kind, planner_hand_plan(4, 3, 2, kind, scores, 3, rows, 12, plan, 4, 7, NO_LOADS(4)) == 7, "the hand plan");
+}
+
+/* P8: one street that has ranked nothing is unserved in the free plan, and has the one site in the balanced plan. */
+static void kinds_apart(size_t kind) {
+    static const uint16_t seven[1] = {7};
+    static const uint8_t empty[1] = {0}, unserved[1] = {0};
+    uint8_t division[1] = {8}, chosen[1] = {8};
+    expect_of(kind, planner_plan(1, 1, 1, kind, seven, 1, empty, 1, division, 1, chosen, 1) == 0, "P8's total");
+    expect_of(kind, division[0] == (kind == PLANNER_FREE ? 0 : 1) && chosen[0] == 1, "P8's plan");
+    uint64_t answer = planner_hand_plan(1, 1, 1, kind, seven, 1, empty, 1, unserved, 1, 0, nothing, 1, nothing, 1, most, 1, most, 1);
+    expect_of(kind, planner_refusal(answer) == (kind == PLANNER_FREE ? 0 : 17), "P8's street unserved by hand");
+}
+
+static void divisions(void) {
+    uint8_t division[4] = {0};
     expect(planner_free_division(4, 3, scores, 3, rows, 12, sites, 2, division, 4) == 7 && !memcmp(division, plan, 4), "the free division");
     memset(division, 0, 4);
     expect(planner_balanced_division(4, 3, scores, 3, rows, 12, sites, 2, division, 4) == 7 && !memcmp(division, plan, 4), "the balanced division");
@@ -52,15 +76,16 @@ static void uneven_shares(void) {
     static const uint8_t all[3] = {1, 2, 3}, two_first[3] = {2, 1, 3}, three_first[3] = {3, 1, 2};
     static const uint8_t one_larger[4] = {1, 1, 2, 3}, two_larger[4] = {2, 1, 2, 3}, three_larger[4] = {1, 3, 2, 3};
     uint8_t division[4] = {0}, chosen[3] = {0};
-    expect(planner_balanced_plan(4, 3, 3, scores, 3, rows, 12, division, 4, chosen, 3) == 8, "P7's total, balanced");
+    expect(planner_plan(4, 3, 3, PLANNER_BALANCED, scores, 3, rows, 12, division, 4, chosen, 3) == 8, "P7's total, balanced");
     expect(!memcmp(division, one_larger, 4) && !memcmp(chosen, all, 3), "P7's balanced plan");
     expect_division(all, one_larger, 8, "the balanced division with site 1 first");
     expect_division(two_first, two_larger, 7, "the balanced division with site 2 first");
     expect_division(three_first, three_larger, 7, "the balanced division with site 3 first");
     expect(planner_floor(4, 3, 3, scores, 3, rows, 12) == 5, "P7's floor");
-    expect(planner_balanced_hand(4, 3, 3, scores, 3, rows, 12, one_larger, 4, 8, NO_LOADS(4)) == 8, "P7's plan as a hand plan");
-    expect(planner_balanced_hand(4, 3, 3, scores, 3, rows, 12, three_larger, 4, 7, NO_LOADS(4)) == 7, "a hand plan with two streets for site 3");
-    expect_refusal(planner_balanced_hand(4, 3, 3, scores, 3, rows, 12, plan, 4, 7, NO_LOADS(4)), 18,
+    expect(planner_hand_plan(4, 3, 3, PLANNER_BALANCED, scores, 3, rows, 12, one_larger, 4, 8, NO_LOADS(4)) == 8, "P7's plan as a hand plan");
+    expect(planner_hand_plan(4, 3, 3, PLANNER_BALANCED, scores, 3, rows, 12, three_larger, 4, 7, NO_LOADS(4)) == 7,
+           "a hand plan with two streets for site 3");
+    expect_refusal(planner_hand_plan(4, 3, 3, PLANNER_BALANCED, scores, 3, rows, 12, plan, 4, 7, NO_LOADS(4)), 18,
                    "a hand plan with two streets for two of three sites");
 }
 
@@ -72,20 +97,21 @@ struct loads {
 /* Site 1 gets 11 kilograms and 5 litres, and site 2 gets 15 and 7: each sum is equal to its limit. */
 static const struct loads fitting = {{5, 6, 7, 8}, {1, 4, 3, 4}, {11, 15, 0}, {5, 7, 0}};
 
-static uint64_t free_hand(const uint8_t division[4], uint32_t claimed, const struct loads *with) {
-    return planner_free_hand(4, 3, 2, scores, 3, rows, 12, division, 4, claimed, with->kilograms, 4, with->litres, 4,
+static uint64_t hand_plan(size_t kind, const uint8_t division[4], uint32_t claimed, const struct loads *with) {
+    return planner_hand_plan(4, 3, 2, kind, scores, 3, rows, 12, division, 4, claimed, with->kilograms, 4, with->litres, 4,
                              with->kilogram_limits, 3, with->litre_limits, 3);
 }
 
-static uint64_t balanced_hand(const uint8_t division[4], uint32_t claimed, const struct loads *with) {
-    return planner_balanced_hand(4, 3, 2, scores, 3, rows, 12, division, 4, claimed, with->kilograms, 4, with->litres, 4,
-                                 with->kilogram_limits, 3, with->litre_limits, 3);
+static uint64_t free_hand_plan(const uint8_t division[4], uint32_t claimed, const struct loads *with) {
+    return hand_plan(PLANNER_FREE, division, claimed, with);
 }
 
-/* Both tests of the plan that claims 7. */
+/* The plan that claims 7, tested as a plan of each kind. */
 static void expect_hands(const struct loads *with, uint32_t number, const char *what) {
     uint64_t answer = number == 0 ? 7 : (uint64_t)number << 32;
-    expect(free_hand(plan, 7, with) == answer && balanced_hand(plan, 7, with) == answer, what);
+    for (size_t kind = PLANNER_FREE; kind <= PLANNER_BALANCED; kind++) {
+        expect_of(kind, hand_plan(kind, plan, 7, with) == answer, what);
+    }
 }
 
 static void limits(void) {
@@ -100,9 +126,9 @@ static void limits(void) {
     expect_hands(&with, PLANNER_REFUSED_KILOGRAMS, "both too many at site 1");
     with = fitting, with.litre_limits[1] = 6;
     expect_hands(&with, PLANNER_REFUSED_LITRES, "a litre too many at site 2");
-    expect_refusal(free_hand(plan, 6, &with), 23, "a litre too many before another total");
-    expect_refusal(free_hand(plan, 6, &fitting), 19, "another total where all fits");
-    expect_refusal(free_hand(three_used, 5, &fitting), 18, "three sites before a kilogram too many at site 3");
+    expect_refusal(free_hand_plan(plan, 6, &with), 23, "a litre too many before another total");
+    expect_refusal(free_hand_plan(plan, 6, &fitting), 19, "another total where all fits");
+    expect_refusal(free_hand_plan(three_used, 5, &fitting), 18, "three sites before a kilogram too many at site 3");
 }
 
 static void greatest_loads(void) {
@@ -110,31 +136,75 @@ static void greatest_loads(void) {
     struct loads with = {{0, 0, 0, PLANNER_MOST_LOAD}, {0, 0, 0, PLANNER_MOST_LOAD}, {0, PLANNER_MOST_LOAD, 0}, {0, PLANNER_MOST_LOAD, 0}};
     expect_hands(&with, 0, "the greatest load and limit");
     with.kilogram_limits[1] = with.litre_limits[1] = 0;
-    expect(free_hand(one_unserved, 6, &with) == 6, "the loads of an unserved street");
+    expect(free_hand_plan(one_unserved, 6, &with) == 6, "the loads of an unserved street");
     with.kilograms[3]++;
-    expect_refusal(free_hand(one_unserved, 6, &with), PLANNER_REFUSED_LOAD, "a load above the greatest, of an unserved street");
+    expect_refusal(free_hand_plan(one_unserved, 6, &with), PLANNER_REFUSED_LOAD, "a load above the greatest, of an unserved street");
     with = fitting, with.litres[0] = PLANNER_MOST_LOAD + 1;
     expect_hands(&with, 21, "litres above the greatest");
     with = fitting, with.kilogram_limits[2] = PLANNER_MOST_LOAD + 1;
     expect_hands(&with, 21, "a kilogram limit above the greatest, of a site without streets");
     with = fitting, with.litre_limits[2] = UINT32_MAX;
     expect_hands(&with, 21, "a litre limit above the greatest, of a site without streets");
-    expect_refusal(free_hand(outside, 6, &with), 21, "a limit above the greatest before a site outside");
+    expect_refusal(free_hand_plan(outside, 6, &with), 21, "a limit above the greatest before a site outside");
 }
+
+/* What buffers hold that a refused call has to leave as they were. */
+static const uint8_t eights[4] = {8, 8, 8, 8};
 
 /* The first two streets of the survey, and three sites: the balanced calls and the floor refuse, and no other. */
 static void more_sites_than_streets(void) {
     static const uint8_t all[3] = {1, 2, 3}, hand[2] = {1, 3};
     uint8_t division[2] = {8, 8}, chosen[3] = {8, 8, 8}, file[33];
-    expect_refusal(planner_balanced_plan(2, 3, 3, scores, 3, rows, 6, division, 2, chosen, 3), 5, "a balanced plan of two streets with K 3");
+    expect_refusal(planner_plan(2, 3, 3, PLANNER_BALANCED, scores, 3, rows, 6, division, 2, chosen, 3), 5,
+                   "a balanced plan of two streets with K 3");
+    expect_refusal(planner_plan(2, 3, 3, PLANNER_BALANCED, scores, 3, rows, 6, division, 1, chosen, 3), 5, "the same into one byte");
+    expect_refusal(planner_plan(2, 3, 3, PLANNER_FREE, scores, 3, rows, 6, division, 1, chosen, 3), 6, "the free plan into one byte");
     expect_refusal(planner_balanced_division(2, 3, scores, 3, rows, 6, all, 3, division, 2), 5, "two streets divided over three sites");
-    expect(division[0] == 8 && division[1] == 8 && chosen[0] == 8 && chosen[1] == 8 && chosen[2] == 8, "the buffers after 5");
+    expect(!memcmp(division, eights, 2) && !memcmp(chosen, eights, 3), "the buffers after 5 and 6");
     expect_refusal(planner_floor(2, 3, 3, scores, 3, rows, 6), PLANNER_REFUSED_SHARE, "the floor of two streets with K 3");
-    expect_refusal(planner_balanced_hand(2, 3, 3, scores, 3, rows, 6, hand, 2, 3, NO_LOADS(2)), 5, "a balanced hand plan of two streets with K 3");
+    expect_refusal(planner_hand_plan(2, 3, 3, PLANNER_BALANCED, scores, 3, rows, 6, hand, 2, 3, NO_LOADS(2)), 5,
+                   "a balanced hand plan of two streets with K 3");
     expect(planner_check_survey(2, 3, 3, scores, 3, rows, 6) == 0, "the check of two streets with K 3");
-    expect(planner_free_plan(2, 3, 3, scores, 3, rows, 6, division, 2, chosen, 3) == 4, "the free plan of two streets with K 3");
-    expect(planner_free_hand(2, 3, 3, scores, 3, rows, 6, hand, 2, 3, NO_LOADS(2)) == 3, "a free hand plan of two streets with K 3");
+    expect(planner_plan(2, 3, 3, PLANNER_FREE, scores, 3, rows, 6, division, 2, chosen, 3) == 4, "the free plan of two streets with K 3");
+    expect(planner_hand_plan(2, 3, 3, PLANNER_FREE, scores, 3, rows, 6, hand, 2, 3, NO_LOADS(2)) == 3,
+           "a free hand plan of two streets with K 3");
     expect(planner_write_file(2, 3, 3, PLANNER_BALANCED, scores, 3, rows, 6, file, 33) == 33, "the writing of two streets with K 3");
+}
+
+/* A plan of another kind: 3 is tried before 4, and 4 before 5 and 6. */
+static void plan_of_another_kind(size_t kind) {
+    uint8_t division[4], chosen[4];
+    memcpy(division, eights, 4), memcpy(chosen, eights, 4);
+    expect_of(kind, refused(planner_plan(4, 3, 2, kind, scores, 3, rows, 12, division, 4, chosen, 2), PLANNER_REFUSED_KIND), "a plan");
+    expect_of(kind, refused(planner_plan(4, 3, 4, kind, scores, 3, rows, 12, division, 4, chosen, 4), 3), "a plan with K 4");
+    expect_of(kind, refused(planner_plan(2, 3, 3, kind, scores, 3, rows, 6, division, 2, chosen, 3), 4), "a plan of two streets with K 3");
+    expect_of(kind, refused(planner_plan(4, 3, 2, kind, scores, 3, rows, 12, division, 3, chosen, 2), 4), "a plan into three bytes");
+    expect_of(kind, refused(planner_plan(4, 3, 2, kind, NULL, 0, NULL, 0, NULL, 0, NULL, 0), 4), "a plan without buffers");
+    expect_of(kind, !memcmp(division, eights, 4) && !memcmp(chosen, eights, 4), "the buffers of a plan");
+}
+
+/* The same for a hand plan; the memory that it is lent could be written. */
+static void hand_plan_of_another_kind(size_t kind) {
+    struct loads with = fitting;
+    uint8_t hand[4];
+    memcpy(hand, plan, 4);
+    expect_of(kind, refused(hand_plan(kind, hand, 7, &with), PLANNER_REFUSED_KIND), "a hand plan");
+    expect_of(kind, !memcmp(hand, plan, 4) && !memcmp(&with, &fitting, sizeof with), "the buffers of a hand plan");
+    expect_of(kind, refused(planner_hand_plan(4, 3, 4, kind, scores, 3, rows, 12, plan, 4, 7, NO_LOADS(4)), 3), "a hand plan with K 4");
+    expect_of(kind, refused(planner_hand_plan(2, 3, 3, kind, scores, 3, rows, 6, plan, 2, 3, NO_LOADS(2)), 4),
+              "a hand plan of two streets with K 3");
+    expect_of(kind, refused(planner_hand_plan(4, 3, 2, kind, scores, 3, rows, 12, plan, 3, 7, NO_LOADS(4)), 4), "a hand plan of three bytes");
+    expect_of(kind, refused(planner_hand_plan(4, 3, 2, kind, NULL, 0, NULL, 0, NULL, 0, 7, NULL, 0, NULL, 0, NULL, 0, NULL, 0), 4),
+              "a hand plan without buffers");
+}
+
+/* Numbers that are no kind, some of which are one in their low 8, 16 or 32 bits. */
+static void other_kinds(void) {
+    static const size_t kinds[] = {2, 3, 255, 256, 257, 65536, 65537, (size_t)1 << 32, ((size_t)1 << 32) + 1, (size_t)-1};
+    for (size_t i = 0; i < sizeof kinds / sizeof kinds[0]; i++) {
+        plan_of_another_kind(kinds[i]);
+        hand_plan_of_another_kind(kinds[i]);
+    }
 }
 
 static void numbers(void) {
@@ -143,8 +213,6 @@ static void numbers(void) {
     expect(planner_row_score(3, scores, 3, rows + 9, 3, 2) == 1, "the row's score");
     expect(planner_list_total(4, 3, scores, 3, rows, 12, sites, 2) == 7, "the list's total");
     expect(planner_floor(4, 3, 2, scores, 3, rows, 12) == 2, "the floor");
-    expect(planner_free_hand(4, 3, 2, scores, 3, rows, 12, plan, 4, 7, NO_LOADS(4)) == 7, "the free hand plan");
-    expect(planner_balanced_hand(4, 3, 2, scores, 3, rows, 12, plan, 4, 7, NO_LOADS(4)) == 7, "the balanced hand plan");
     expect(planner_version() == PLANNER_VERSION, "the version");
 }
 
@@ -174,27 +242,24 @@ static void null_read(void) {
     expect_refusal(planner_floor(4, 3, 2, scores, 3, NULL, 0), 6, "the floor without rows");
 }
 
-static void null_hand_plans(void) {
-    expect_refusal(planner_free_hand(4, 3, 2, NULL, 0, rows, 12, plan, 4, 7, NO_LOADS(4)), 6, "the free hand plan without scores");
-    expect_refusal(planner_free_hand(4, 3, 2, scores, 3, NULL, 0, plan, 4, 7, NO_LOADS(4)), 6, "the free hand plan without rows");
-    expect_refusal(planner_free_hand(4, 3, 2, scores, 3, rows, 12, NULL, 0, 7, NO_LOADS(4)), 6, "the free hand plan without a division");
-    expect_refusal(planner_balanced_hand(4, 3, 2, NULL, 0, rows, 12, plan, 4, 7, NO_LOADS(4)), 6, "the balanced hand plan without scores");
-    expect_refusal(planner_balanced_hand(4, 3, 2, scores, 3, NULL, 0, plan, 4, 7, NO_LOADS(4)), 6, "the balanced hand plan without rows");
-    expect_refusal(planner_balanced_hand(4, 3, 2, scores, 3, rows, 12, NULL, 0, 7, NO_LOADS(4)), 6, "the balanced hand plan without a division");
+static void null_hand_plans(size_t kind) {
+    expect_of(kind, refused(planner_hand_plan(4, 3, 2, kind, NULL, 0, rows, 12, plan, 4, 7, NO_LOADS(4)), 6), "the hand plan without scores");
+    expect_of(kind, refused(planner_hand_plan(4, 3, 2, kind, scores, 3, NULL, 0, plan, 4, 7, NO_LOADS(4)), 6), "the hand plan without rows");
+    expect_of(kind, refused(planner_hand_plan(4, 3, 2, kind, scores, 3, rows, 12, NULL, 0, 7, NO_LOADS(4)), 6),
+              "the hand plan without a division");
 }
 
 /* Each buffer of loads and limits empty, and one number short. */
-static void other_lengths_of_loads(void) {
+static void other_lengths_of_loads(size_t kind) {
     static const size_t lengths[8][4] = {{0, 4, 3, 3}, {4, 0, 3, 3}, {4, 4, 0, 3}, {4, 4, 3, 0},
                                          {3, 4, 3, 3}, {4, 3, 3, 3}, {4, 4, 2, 3}, {4, 4, 3, 2}};
     for (int i = 0; i < 8; i++) {
         const size_t *l = lengths[i];
         const uint32_t *kilograms = l[0] ? nothing : NULL, *litres = l[1] ? nothing : NULL;
         const uint32_t *kilogram_limits = l[2] ? most : NULL, *litre_limits = l[3] ? most : NULL;
-        expect_refusal(planner_free_hand(4, 3, 2, scores, 3, rows, 12, plan, 4, 7, kilograms, l[0], litres, l[1], kilogram_limits, l[2],
-                                         litre_limits, l[3]), 6, "the free hand plan with too few loads or limits");
-        expect_refusal(planner_balanced_hand(4, 3, 2, scores, 3, rows, 12, plan, 4, 7, kilograms, l[0], litres, l[1], kilogram_limits, l[2],
-                                             litre_limits, l[3]), 6, "the balanced hand plan with too few loads or limits");
+        uint64_t answer = planner_hand_plan(4, 3, 2, kind, scores, 3, rows, 12, plan, 4, 7, kilograms, l[0], litres, l[1],
+                                            kilogram_limits, l[2], litre_limits, l[3]);
+        expect_of(kind, refused(answer, 6), "the hand plan with too few loads or limits");
     }
 }
 
@@ -210,16 +275,12 @@ static void null_divisions(void) {
     expect_refusal(planner_balanced_division(4, 3, scores, 3, rows, 12, sites, 2, NULL, 0), 6, "the balanced division into no bytes");
 }
 
-static void null_plans(void) {
+static void null_plans(size_t kind) {
     uint8_t division[4], chosen[2];
-    expect_refusal(planner_free_plan(4, 3, 2, NULL, 0, rows, 12, division, 4, chosen, 2), 6, "the free plan without scores");
-    expect_refusal(planner_free_plan(4, 3, 2, scores, 3, NULL, 0, division, 4, chosen, 2), 6, "the free plan without rows");
-    expect_refusal(planner_free_plan(4, 3, 2, scores, 3, rows, 12, NULL, 0, chosen, 2), 6, "the free plan without a division");
-    expect_refusal(planner_free_plan(4, 3, 2, scores, 3, rows, 12, division, 4, NULL, 0), 6, "the free plan without chosen sites");
-    expect_refusal(planner_balanced_plan(4, 3, 2, NULL, 0, rows, 12, division, 4, chosen, 2), 6, "the balanced plan without scores");
-    expect_refusal(planner_balanced_plan(4, 3, 2, scores, 3, NULL, 0, division, 4, chosen, 2), 6, "the balanced plan without rows");
-    expect_refusal(planner_balanced_plan(4, 3, 2, scores, 3, rows, 12, NULL, 0, chosen, 2), 6, "the balanced plan without a division");
-    expect_refusal(planner_balanced_plan(4, 3, 2, scores, 3, rows, 12, division, 4, NULL, 0), 6, "the balanced plan without chosen sites");
+    expect_of(kind, refused(planner_plan(4, 3, 2, kind, NULL, 0, rows, 12, division, 4, chosen, 2), 6), "the plan without scores");
+    expect_of(kind, refused(planner_plan(4, 3, 2, kind, scores, 3, NULL, 0, division, 4, chosen, 2), 6), "the plan without rows");
+    expect_of(kind, refused(planner_plan(4, 3, 2, kind, scores, 3, rows, 12, NULL, 0, chosen, 2), 6), "the plan without a division");
+    expect_of(kind, refused(planner_plan(4, 3, 2, kind, scores, 3, rows, 12, division, 4, NULL, 0), 6), "the plan without chosen sites");
 }
 
 static void null_files(void) {
@@ -252,7 +313,15 @@ static void texts(void) {
 }
 
 int main(void) {
-    plans();
+    for (size_t kind = PLANNER_FREE; kind <= PLANNER_BALANCED; kind++) {
+        plans(kind);
+        kinds_apart(kind);
+        null_hand_plans(kind);
+        other_lengths_of_loads(kind);
+        null_plans(kind);
+    }
+    other_kinds();
+    divisions();
     uneven_shares();
     limits();
     greatest_loads();
@@ -260,10 +329,7 @@ int main(void) {
     numbers();
     files();
     null_read();
-    null_hand_plans();
-    other_lengths_of_loads();
     null_divisions();
-    null_plans();
     null_files();
     texts();
     return differences;

@@ -89,7 +89,7 @@ pub const ROWS_LENGTH: usize = MAX_STREETS * MAX_SITES;
 pub const FILE_LENGTH: usize = 27_739;
 
 /// The crate's version: the year, and in two digits the number of the last change request that is in.
-pub const VERSION: u32 = 202_602;
+pub const VERSION: u32 = 202_603;
 
 /// The version of the archive that is linked, which counts as [`VERSION`] does.
 ///

@@ -5,7 +5,7 @@ use std::slice;
 
 /// The kind of a plan.
 ///
-/// A survey file has it as a number, 0 or 1.
+/// For the library, and in a survey file, it is a number, 0 or 1.
 ///
 /// ```
 /// use planner::{Kind, Refusal};

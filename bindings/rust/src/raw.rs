@@ -70,26 +70,12 @@ unsafe extern "C" {
         division_len: usize,
     ) -> u64;
 
-    /// The free plan, into `division` and `chosen`; its total.
-    pub fn planner_free_plan(
+    /// The plan of a kind, 0 free and 1 balanced, into `division` and `chosen`; its total.
+    pub fn planner_plan(
         n: usize,
         m: usize,
         k: usize,
-        scores: *const u16,
-        scores_len: usize,
-        rows: *const u8,
-        rows_len: usize,
-        division: *mut u8,
-        division_len: usize,
-        chosen: *mut u8,
-        chosen_len: usize,
-    ) -> u64;
-
-    /// The balanced plan, into `division` and `chosen`; its total.
-    pub fn planner_balanced_plan(
-        n: usize,
-        m: usize,
-        k: usize,
+        kind: usize,
         scores: *const u16,
         scores_len: usize,
         rows: *const u8,
@@ -103,33 +89,12 @@ unsafe extern "C" {
     /// The floor, a total that the balanced plan reaches in any case.
     pub fn planner_floor(n: usize, m: usize, k: usize, scores: *const u16, scores_len: usize, rows: *const u8, rows_len: usize) -> u64;
 
-    /// Tests a hand-made free plan with its loads; its total.
-    pub fn planner_free_hand(
+    /// Tests a hand-made plan of a kind, 0 free and 1 balanced, with its loads; its total.
+    pub fn planner_hand_plan(
         n: usize,
         m: usize,
         k: usize,
-        scores: *const u16,
-        scores_len: usize,
-        rows: *const u8,
-        rows_len: usize,
-        division: *const u8,
-        division_len: usize,
-        claimed: u32,
-        kilograms: *const u32,
-        kilograms_len: usize,
-        litres: *const u32,
-        litres_len: usize,
-        kilogram_limits: *const u32,
-        kilogram_limits_len: usize,
-        litre_limits: *const u32,
-        litre_limits_len: usize,
-    ) -> u64;
-
-    /// Tests a hand-made balanced plan with its loads; its total.
-    pub fn planner_balanced_hand(
-        n: usize,
-        m: usize,
-        k: usize,
+        kind: usize,
         scores: *const u16,
         scores_len: usize,
         rows: *const u8,

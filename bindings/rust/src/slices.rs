@@ -4,15 +4,15 @@
 //! first. A refused call leaves the lent slices as they were. Sizes are `n` streets, `m` sites and `k` sites to choose. `scores` are the
 //! `m` scores of the places, best first. `rows` are `n` rows of `m` bytes: the sites that a street has ranked, best first, then zeros.
 //!
-//! A function here has the parameters of the library's own, the loads of a hand plan together as [`Loads`], and gets more of them with it,
-//! while a program that uses the crate's types stays as it is.
+//! A function here has the parameters of the library's own, a kind as [`Kind`] and the loads of a hand plan together as [`Loads`], and gets
+//! more of them with it, while a program that uses the crate's types stays as it is.
 //!
 //! ```
-//! use planner::{slices, Refusal};
+//! use planner::{slices, Kind, Refusal};
 //!
 //! let (scores, rows) = ([2, 1], [1, 2, 1, 0]);
 //! let (mut division, mut chosen) = ([0; 2], [0; 2]);
-//! assert_eq!(slices::balanced_plan(2, 2, 2, &scores, &rows, &mut division, &mut chosen), Ok(3));
+//! assert_eq!(slices::plan(2, 2, 2, Kind::Balanced, &scores, &rows, &mut division, &mut chosen), Ok(3));
 //! assert_eq!((division, chosen), ([2, 1], [1, 2]));
 //! assert_eq!(slices::floor(2, 2, 3, &scores, &rows), Err(Refusal::Chosen));
 //! ```
@@ -29,8 +29,8 @@ pub struct Sizes {
     pub m: usize,
     /// The number of sites to choose.
     pub k: usize,
-    /// The kind of plan: 0 free, 1 balanced.
-    pub kind: usize,
+    /// The kind of plan.
+    pub kind: Kind,
 }
 
 /// Takes a packed answer apart: the refusal in the upper half, the total in the lower.
@@ -133,26 +133,34 @@ pub fn balanced_division(n: usize, m: usize, scores: &[u16], rows: &[u8], sites:
     self::division(Kind::Balanced, [n, m], scores, rows, sites, division)
 }
 
-/// The plan of a kind.
-pub(crate) fn plan(
+/// The plan of a kind: the site of each street into the `n` bytes of `division`, the sites in order of choice into the `k` bytes of
+/// `chosen`. Gives the total.
+///
+/// In a free plan each of `k` rounds adds the site that raises the total most, the lowest number on a tie; then the streets go to them as
+/// in [`free_division`]. In a balanced one each round deals its site `n / k` streets, the first `n % k` rounds one more; then the streets
+/// are divided over the sites as in [`balanced_division`].
+///
+/// # Errors
+/// As [`check_survey`], where for a balanced plan 5 `Share` is tried after 3, and 6 `BufferLength` for the division and the chosen sites
+/// too.
+pub fn plan(
+    n: usize,
+    m: usize,
+    k: usize,
     kind: Kind,
-    [n, m, k]: [usize; 3],
     scores: &[u16],
     rows: &[u8],
     division: &mut [u8],
     chosen: &mut [u8],
 ) -> Result<u32, Refusal> {
-    let call = match kind {
-        Kind::Free => raw::planner_free_plan,
-        Kind::Balanced => raw::planner_balanced_plan,
-    };
     // SAFETY: each pointer is a slice's own, beside its length; the division and the chosen sites are written, and each is borrowed for
     // this call alone.
     unpacked(unsafe {
-        call(
+        raw::planner_plan(
             n,
             m,
             k,
+            kind.into(),
             scores.as_ptr(),
             scores.len(),
             rows.as_ptr(),
@@ -165,41 +173,6 @@ pub(crate) fn plan(
     })
 }
 
-/// The free plan: the site of each street into the `n` bytes of `division`, the sites in order of choice into the `k` bytes of `chosen`.
-/// Each of `k` rounds adds the site that raises the total most, the lowest number on a tie; then the streets go to them as in
-/// [`free_division`]. Gives the total.
-///
-/// # Errors
-/// As [`check_survey`], where 6 `BufferLength` is tried for the division and the chosen sites too.
-pub fn free_plan(
-    n: usize,
-    m: usize,
-    k: usize,
-    scores: &[u16],
-    rows: &[u8],
-    division: &mut [u8],
-    chosen: &mut [u8],
-) -> Result<u32, Refusal> {
-    plan(Kind::Free, [n, m, k], scores, rows, division, chosen)
-}
-
-/// The balanced plan, with `n / k` streets to each of the `k` sites and one more to each of the first `n % k` in order of choice; buffers
-/// as in [`free_plan`]. Gives the total.
-///
-/// # Errors
-/// As [`check_survey`], where 5 `Share` is tried after 3, and 6 `BufferLength` for the division and the chosen sites too.
-pub fn balanced_plan(
-    n: usize,
-    m: usize,
-    k: usize,
-    scores: &[u16],
-    rows: &[u8],
-    division: &mut [u8],
-    chosen: &mut [u8],
-) -> Result<u32, Refusal> {
-    plan(Kind::Balanced, [n, m, k], scores, rows, division, chosen)
-}
-
 /// The floor: a total that the balanced plan reaches in any case.
 ///
 /// # Errors
@@ -209,27 +182,35 @@ pub fn floor(n: usize, m: usize, k: usize, scores: &[u16], rows: &[u8]) -> Resul
     unpacked(unsafe { raw::planner_floor(n, m, k, scores.as_ptr(), scores.len(), rows.as_ptr(), rows.len()) })
 }
 
-/// The test of a hand-made plan of a kind.
-pub(crate) fn hand_plan(
+/// Tests a hand-made plan of a kind: the site of each street, in a free plan 0 for none, the total that is claimed for it, and its
+/// [`Loads`], kilograms and litres of `n` streets and the limits of `m` sites. Gives the plan's total, which the claimed one then is.
+///
+/// A free plan uses at most `k` sites. In a balanced one `n % k` sites, whichever they are, have `n / k + 1` streets each, and `k - n % k`
+/// have `n / k`.
+///
+/// # Errors
+/// As [`check_survey`], where for a balanced plan 5 `Share` is tried after 3, and 6 `BufferLength` for the division and the loads too; then
+/// 21 `Load` over the loads and limits; over the division 17 `SiteOutside` and 18 `SitesUsed`; site by site 22 `Kilograms` before
+/// 23 `Litres`; last 19 `ClaimedTotal`.
+pub fn hand_plan(
+    n: usize,
+    m: usize,
+    k: usize,
     kind: Kind,
-    [n, m, k]: [usize; 3],
     scores: &[u16],
     rows: &[u8],
     division: &[u8],
     claimed: u32,
     loads: Loads<'_>,
 ) -> Result<u32, Refusal> {
-    let call = match kind {
-        Kind::Free => raw::planner_free_hand,
-        Kind::Balanced => raw::planner_balanced_hand,
-    };
     let Loads { kilograms, litres, kilogram_limits, litre_limits } = loads;
     // SAFETY: each pointer is a slice's own, beside its length, and is only read.
     unpacked(unsafe {
-        call(
+        raw::planner_hand_plan(
             n,
             m,
             k,
+            kind.into(),
             scores.as_ptr(),
             scores.len(),
             rows.as_ptr(),
@@ -249,52 +230,26 @@ pub(crate) fn hand_plan(
     })
 }
 
-/// Tests a hand-made free plan: the site of each street, 0 for none, the total that is claimed for it, and its [`Loads`], `n` of each kind
-/// and `m` limits of each kind. Gives the plan's total, which the claimed one then is.
-///
-/// # Errors
-/// As [`check_survey`], where 6 `BufferLength` is tried for the division and the loads too; then 21 `Load` over the loads and limits; over
-/// the division 17 `SiteOutside` and 18 `SitesUsed`; site by site 22 `Kilograms` before 23 `Litres`; last 19 `ClaimedTotal`.
-pub fn free_hand(
-    n: usize,
-    m: usize,
-    k: usize,
-    scores: &[u16],
-    rows: &[u8],
-    division: &[u8],
-    claimed: u32,
-    loads: Loads<'_>,
-) -> Result<u32, Refusal> {
-    hand_plan(Kind::Free, [n, m, k], scores, rows, division, claimed, loads)
-}
-
-/// Tests a hand-made balanced plan: `n % k` sites, whichever they are, with `n / k + 1` streets each and `k - n % k` with `n / k`, the
-/// total that is claimed for it, and its loads as in [`free_hand`]. Gives the plan's total, which the claimed one then is.
-///
-/// # Errors
-/// As [`free_hand`], where 5 `Share` is tried after 3.
-pub fn balanced_hand(
-    n: usize,
-    m: usize,
-    k: usize,
-    scores: &[u16],
-    rows: &[u8],
-    division: &[u8],
-    claimed: u32,
-    loads: Loads<'_>,
-) -> Result<u32, Refusal> {
-    hand_plan(Kind::Balanced, [n, m, k], scores, rows, division, claimed, loads)
-}
-
 /// Writes the survey file into a buffer of any length, of which [`FILE_LENGTH`](crate::FILE_LENGTH) bytes are always enough. Gives the
 /// file's length, and changes no byte behind it.
 ///
 /// # Errors
-/// As [`check_survey`], where 4 `Kind` is tried after 3; last 7 `FileBufferShort`.
-pub fn write_file(n: usize, m: usize, k: usize, kind: usize, scores: &[u16], rows: &[u8], file: &mut [u8]) -> Result<usize, Refusal> {
+/// As [`check_survey`]; last 7 `FileBufferShort`.
+pub fn write_file(n: usize, m: usize, k: usize, kind: Kind, scores: &[u16], rows: &[u8], file: &mut [u8]) -> Result<usize, Refusal> {
     // SAFETY: the three pointers are a slice's own, beside its length; only the file is written, and it is borrowed for this call alone.
     let answer = unsafe {
-        raw::planner_write_file(n, m, k, kind, scores.as_ptr(), scores.len(), rows.as_ptr(), rows.len(), file.as_mut_ptr(), file.len())
+        raw::planner_write_file(
+            n,
+            m,
+            k,
+            kind.into(),
+            scores.as_ptr(),
+            scores.len(),
+            rows.as_ptr(),
+            rows.len(),
+            file.as_mut_ptr(),
+            file.len(),
+        )
     };
     unpacked(answer).map(|length| length as usize)
 }
@@ -324,5 +279,6 @@ pub fn read_file(file: &[u8], scores: &mut [u16], rows: &mut [u8]) -> Result<Siz
             rows.len(),
         )
     };
-    unpacked(answer).map(|_| Sizes { n, m, k, kind })
+    unpacked(answer)?;
+    Ok(Sizes { n, m, k, kind: Kind::try_from(kind)? })
 }

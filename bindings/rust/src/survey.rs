@@ -142,8 +142,7 @@ impl Survey {
         let mut division = vec![0; self.streets()];
         // a K above the number of sites is refused before the lengths are looked at
         let mut sites = vec![0; k.min(self.sites())];
-        let sizes = [self.streets(), self.sites(), k];
-        let total = slices::plan(kind, sizes, &self.scores, &self.rows, &mut division, &mut sites)?;
+        let total = slices::plan(self.streets(), self.sites(), k, kind, &self.scores, &self.rows, &mut division, &mut sites)?;
         Ok(Plan { sites, division: division.into(), total })
     }
 
@@ -222,7 +221,7 @@ impl Survey {
     /// kind for each street and a limit of each kind for each site; 21 [`Load`](Refusal::Load) comes before 17, and site by site 22
     /// [`Kilograms`](Refusal::Kilograms) before 23 [`Litres`](Refusal::Litres) come between 18 and 19.
     pub fn test_with_loads(&self, plan: &HandPlan, loads: Loads<'_>) -> Result<u32, Refusal> {
-        let sizes = [self.streets(), self.sites(), plan.k()];
-        slices::hand_plan(plan.kind(), sizes, &self.scores, &self.rows, plan.division().as_bytes(), plan.claimed(), loads)
+        let (n, m, division) = (self.streets(), self.sites(), plan.division().as_bytes());
+        slices::hand_plan(n, m, plan.k(), plan.kind(), &self.scores, &self.rows, division, plan.claimed(), loads)
     }
 }

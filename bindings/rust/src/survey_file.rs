@@ -55,7 +55,7 @@ impl SurveyFile {
         let sizes = slices::read_file(bytes, &mut scores, &mut rows)?;
         scores.truncate(sizes.m);
         rows.truncate(sizes.n * sizes.m);
-        Ok(SurveyFile { survey: Survey::of_file(scores, rows), kind: Kind::try_from(sizes.kind)?, k: sizes.k })
+        Ok(SurveyFile { survey: Survey::of_file(scores, rows), kind: sizes.kind, k: sizes.k })
     }
 
     /// The file's bytes.
@@ -65,7 +65,7 @@ impl SurveyFile {
     pub fn write(&self) -> Result<Vec<u8>, Refusal> {
         let mut file = vec![0; FILE_LENGTH];
         let (n, m) = (self.survey.streets(), self.survey.sites());
-        let length = slices::write_file(n, m, self.k, self.kind.into(), self.survey.scores(), self.survey.rows(), &mut file)?;
+        let length = slices::write_file(n, m, self.k, self.kind, self.survey.scores(), self.survey.rows(), &mut file)?;
         file.truncate(length);
         Ok(file)
     }

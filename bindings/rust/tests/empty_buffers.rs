@@ -78,7 +78,7 @@ struct Call {
 macro_rules! call {
     ($function:ident: $($number:expr)*; $($buffer:ident $refusal:literal)*; $($last:expr)* $(; $($behind:ident $of_behind:literal)*)?) => {
         Call {
-            name: stringify!($function),
+            name: stringify!($function $($number)*),
             refusals: &[$((stringify!($buffer), $refusal),)* $($((stringify!($behind), $of_behind),)*)?],
             // SAFETY: each pointer is a vector's own beside its length, and only an empty buffer has another.
             run: |empty, lent| unsafe {
@@ -100,11 +100,11 @@ const CALLS: [Call; 13] = [
     call!(planner_list_total: 4 3; scores 6 rows 6 sites 3;),
     call!(planner_free_division: 4 3; scores 6 rows 6 sites 3 division 6;),
     call!(planner_balanced_division: 4 3; scores 6 rows 6 sites 3 division 6;),
-    call!(planner_free_plan: 4 3 2; scores 6 rows 6 division 6 chosen 6;),
-    call!(planner_balanced_plan: 4 3 2; scores 6 rows 6 division 6 chosen 6;),
+    call!(planner_plan: 4 3 2 0; scores 6 rows 6 division 6 chosen 6;),
+    call!(planner_plan: 4 3 2 1; scores 6 rows 6 division 6 chosen 6;),
     call!(planner_floor: 4 3 2; scores 6 rows 6;),
-    call!(planner_free_hand: 4 3 2; scores 6 rows 6 division 6; 7; kilograms 6 litres 6 kilogram_limits 6 litre_limits 6),
-    call!(planner_balanced_hand: 4 3 2; scores 6 rows 6 division 6; 7; kilograms 6 litres 6 kilogram_limits 6 litre_limits 6),
+    call!(planner_hand_plan: 4 3 2 0; scores 6 rows 6 division 6; 7; kilograms 6 litres 6 kilogram_limits 6 litre_limits 6),
+    call!(planner_hand_plan: 4 3 2 1; scores 6 rows 6 division 6; 7; kilograms 6 litres 6 kilogram_limits 6 litre_limits 6),
     call!(planner_write_file: 4 3 2 1; scores 6 rows 6 file 7;),
     Call { name: "planner_read_file", refusals: &[("file", 12), ("read_scores", 6), ("read_rows", 6)], run: read_file },
 ];

@@ -1,9 +1,9 @@
 //! One call of the library and the same by `plain`: the answer, and every byte lent, must agree. Each gives back the number that was
 //! refused, 0 for an accepted call.
-use crate::drawn_loads::lent;
+use crate::any_kind;
 use crate::plain::loads::Loads;
 use crate::plain::survey::{self, division_total, Town};
-use crate::plain::{balanced, division, file, free, hand, refusals};
+use crate::plain::{balanced, division, file, free, hand, refusals, BALANCED, FREE};
 use planner::{slices, Refusal};
 use std::fmt::Debug;
 
@@ -83,26 +83,31 @@ pub fn balanced_division(t: &Town, sites: &[u8], length: usize) -> u8 {
     same(ours, tried.map(|()| division_total(&t.values(), &buffer)), "balanced_division", t)
 }
 
-pub fn free_plan(t: &Town, lengths: Buffers) -> u8 {
-    let (mut buffer, mut chosen) = (vec![OLD; lengths.division], vec![OLD; lengths.chosen]);
-    let ours = slices::free_plan(t.n, t.m, t.k, &t.scores, &t.rows, &mut buffer, &mut chosen);
-    let tried = refusals::free_plan(t, lengths.division, lengths.chosen);
-    let sites = tried.is_ok().then(|| free::sites(t));
-    let new = sites.as_ref().map(|sites| free::divide(t, sites));
-    held(&chosen, sites.as_deref(), "free_plan", t);
-    held(&buffer, new.as_deref(), "free_plan", t);
-    same(ours, tried.map(|()| free::total(&t.values(), &chosen)), "free_plan", t)
+/// Sites, site of each street, and total.
+type Planned = (Vec<u8>, Vec<u8>, u32);
+
+/// The plan of a kind by `plain`.
+fn plain_plan(t: &Town, kind: usize) -> Planned {
+    let values = t.values();
+    if kind == FREE {
+        let sites = free::sites(t);
+        let (division, total) = (free::divide(t, &sites), free::total(&values, &sites));
+        return (sites, division, total);
+    }
+    let sites = balanced::sites(t);
+    let division = best_division(&values, &sites);
+    let total = division_total(&values, &division);
+    (sites, division, total)
 }
 
-pub fn balanced_plan(t: &Town, lengths: Buffers) -> u8 {
-    let (mut buffer, mut chosen) = (vec![OLD; lengths.division], vec![OLD; lengths.chosen]);
-    let ours = slices::balanced_plan(t.n, t.m, t.k, &t.scores, &t.rows, &mut buffer, &mut chosen);
-    let tried = refusals::balanced_plan(t, lengths.division, lengths.chosen);
-    let sites = tried.is_ok().then(|| balanced::sites(t));
-    let new = sites.as_ref().map(|sites| best_division(&t.values(), sites));
-    held(&chosen, sites.as_deref(), "balanced_plan", t);
-    held(&buffer, new.as_deref(), "balanced_plan", t);
-    same(ours, tried.map(|()| division_total(&t.values(), &buffer)), "balanced_plan", t)
+pub fn plan(t: &Town, kind: usize, lengths: Buffers) -> u8 {
+    let (mut division, mut chosen) = (vec![OLD; lengths.division], vec![OLD; lengths.chosen]);
+    let ours = any_kind::plan(t, kind, &mut division, &mut chosen);
+    let plain = refusals::plan(t, kind, lengths.division, lengths.chosen).map(|()| plain_plan(t, kind));
+    let (call, new) = (format!("plan of kind {kind}"), plain.as_ref().ok());
+    held(&chosen, new.map(|(sites, _, _)| &sites[..]), &call, t);
+    held(&division, new.map(|(_, division, _)| &division[..]), &call, t);
+    same(ours, plain.map(|(_, _, total)| total), &call, t)
 }
 
 pub fn floor(t: &Town) -> u8 {
@@ -110,21 +115,15 @@ pub fn floor(t: &Town) -> u8 {
     same(slices::floor(t.n, t.m, t.k, &t.scores, &t.rows), plain, "floor", t)
 }
 
-pub fn free_hand(t: &Town, division: &[u8], claimed: u32, loads: &Loads) -> u8 {
-    let ours = slices::free_hand(t.n, t.m, t.k, &t.scores, &t.rows, division, claimed, lent(loads));
-    let plain = hand::free(t, division, claimed, loads).map(|()| division_total(&t.values(), division));
-    same(ours, plain, &format!("free_hand {division:?} with {loads:?}"), t)
-}
-
-pub fn balanced_hand(t: &Town, division: &[u8], claimed: u32, loads: &Loads) -> u8 {
-    let ours = slices::balanced_hand(t.n, t.m, t.k, &t.scores, &t.rows, division, claimed, lent(loads));
-    let plain = hand::balanced(t, division, claimed, loads).map(|()| division_total(&t.values(), division));
-    same(ours, plain, &format!("balanced_hand {division:?} with {loads:?}"), t)
+pub fn hand_plan(t: &Town, kind: usize, division: &[u8], claimed: u32, loads: &Loads) -> u8 {
+    let ours = any_kind::hand_plan(t, kind, division, claimed, loads);
+    let plain = hand::test(t, kind, division, claimed, loads).map(|()| division_total(&t.values(), division));
+    same(ours, plain, &format!("hand_plan {division:?} of kind {kind} with {loads:?}"), t)
 }
 
 pub fn write_file(t: &Town, kind: usize, length: usize) -> u8 {
     let mut buffer = vec![OLD; length];
-    let ours = slices::write_file(t.n, t.m, t.k, kind, &t.scores, &t.rows, &mut buffer);
+    let ours = any_kind::write_file(t, kind, &mut buffer);
     let plain = refusals::write(t, kind).and_then(|()| {
         let file = file::write(t, kind);
         if length < file.len() {
@@ -188,8 +187,8 @@ pub fn everything(t: &Town, sites: &[u8], kind: usize) {
     free_division(t, sites, t.n);
     balanced_division(t, sites, t.n);
     let exact = Buffers { division: t.n, chosen: t.k };
-    free_plan(t, exact);
-    balanced_plan(t, exact);
+    plan(t, FREE, exact);
+    plan(t, BALANCED, exact);
     floor(t);
     let file = file::write(t, kind);
     assert_eq!(file::read(&file), Ok((t.clone(), kind)));

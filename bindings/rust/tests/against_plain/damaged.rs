@@ -1,12 +1,19 @@
 //! Surveys, lists of sites and buffers with something wrong: the first number in document 01's order comes back, and no byte changes.
 use crate::compare::{self, Buffers, NUMBERS};
 use crate::plain::survey::Town;
+use crate::plain::{BALANCED, FREE};
 use crate::random::Random;
 use crate::towns;
 
 /// A wrong value for a size.
 fn wrong_size(random: &mut Random, size: usize, most: usize) -> usize {
     [0, most.wrapping_add(1), usize::MAX, size.wrapping_add(1), size.wrapping_sub(1)][random.below(5)]
+}
+
+/// A number that is no kind; some of them are one in their low 8, 16 or 32 bits.
+pub fn wrong_kind(random: &mut Random) -> usize {
+    let any = random.within(2, usize::MAX);
+    [2, 3, 255, 256, 257, 1 << 16, (1 << 16) + 1, 1 << 32, (1 << 32) + 1, 1 << 63, usize::MAX, any][random.below(12)]
 }
 
 /// Makes a survey wrong in one way; seldom it stays right.
@@ -59,7 +66,8 @@ fn call_all(random: &mut Random, town: &Town, seen: &mut [usize; NUMBERS]) {
     let row = &town.rows[..length(random, town.m).min(town.rows.len())];
     let site = [1, town.m as u8, 0, 65, random.below(256) as u8][random.below(5)];
     let lengths = Buffers { division: length(random, town.n), chosen: length(random, town.k) };
-    let kind = [0, 1, 2, usize::MAX][random.below(4)];
+    let wrong = wrong_kind(random);
+    let kind = [FREE, BALANCED, wrong, wrong][random.below(4)];
     let room = [0, 8, 50, 27_739][random.below(4)];
     let numbers = [
         compare::check_survey(town),
@@ -67,8 +75,9 @@ fn call_all(random: &mut Random, town: &Town, seen: &mut [usize; NUMBERS]) {
         compare::list_total(town, &list),
         compare::free_division(town, &list, lengths.division),
         compare::balanced_division(town, &list, lengths.division),
-        compare::free_plan(town, lengths),
-        compare::balanced_plan(town, lengths),
+        compare::plan(town, FREE, lengths),
+        compare::plan(town, BALANCED, lengths),
+        compare::plan(town, wrong, lengths),
         compare::floor(town),
         compare::write_file(town, kind, room),
     ];

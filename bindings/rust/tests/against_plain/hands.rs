@@ -1,12 +1,13 @@
 //! Hand-made plans: right ones, and ones with a street moved, a site that is none, another total claimed, or loads that do not fit.
 use crate::compare::{self, NUMBERS};
+use crate::damaged;
 use crate::drawn_loads;
 use crate::plain::loads::Loads;
 use crate::plain::survey::{division_total, Town};
-use crate::plain::{balanced, free};
+use crate::plain::{balanced, free, BALANCED, FREE};
 use crate::random::Random;
 use crate::towns;
-use planner::slices;
+use planner::{slices, Kind};
 
 /// Changes a plan in one way, or not at all, and claims its total or one beside it.
 fn changed(random: &mut Random, town: &Town, plan: &[u8]) -> (Vec<u8>, u32) {
@@ -27,23 +28,27 @@ fn changed(random: &mut Random, town: &Town, plan: &[u8]) -> (Vec<u8>, u32) {
     (division, claimed)
 }
 
-/// Both tests of one plan, changed again and again.
-fn try_plan(random: &mut Random, town: &Town, plan: &[u8], seen: &mut [[usize; NUMBERS]; 2]) {
+/// The numbers that came back, for each kind and for a number that is none.
+type Seen = [[usize; NUMBERS]; 3];
+
+/// The tests of one plan, changed again and again.
+fn try_plan(random: &mut Random, town: &Town, plan: &[u8], seen: &mut Seen) {
     for _ in 0..6 {
         let (division, claimed) = changed(random, town, plan);
         let mut loads = drawn_loads::loads(random, town, &division);
         if random.once_in(8) {
             drawn_loads::damage(random, &mut loads);
         }
-        seen[0][usize::from(compare::free_hand(town, &division, claimed, &loads))] += 1;
-        seen[1][usize::from(compare::balanced_hand(town, &division, claimed, &loads))] += 1;
+        for (seen, kind) in seen.iter_mut().zip([FREE, BALANCED, damaged::wrong_kind(random)]) {
+            seen[usize::from(compare::hand_plan(town, kind, &division, claimed, &loads))] += 1;
+        }
     }
 }
 
 #[test]
 fn hand_plans() {
     let mut random = Random::new(14);
-    let mut seen = [[0; NUMBERS]; 2];
+    let mut seen: Seen = [[0; NUMBERS]; 3];
     for turn in 0..6_000 {
         let mut town = towns::any_town(&mut random, 9, 5);
         let mut plan = free::divide(&town, &free::sites(&town));
@@ -59,10 +64,13 @@ fn hand_plans() {
         }
         try_plan(&mut random, &town, &plan, &mut seen);
     }
+    let [free, balanced, neither] = seen;
     for number in [0, 3, 6, 10, 17, 18, 19, 21, 22, 23] {
-        assert!(seen[0][number] > 100 && seen[1][number] > 100, "{number} came {} and {} times", seen[0][number], seen[1][number]);
+        assert!(free[number] > 100 && balanced[number] > 100, "{number} came {} and {} times", free[number], balanced[number]);
     }
-    assert!(seen[0][5] == 0 && seen[1][5] > 100);
+    assert!(free[5] == 0 && balanced[5] > 100);
+    // what is no kind is refused with 4, or before it with 3
+    assert!(neither[3] > 100 && neither[4] > 100 && neither[3] + neither[4] == neither.iter().sum());
 }
 
 #[test]
@@ -72,11 +80,11 @@ fn our_plans_pass() {
         let most = if turn < 280 { (30, 10) } else { (400, 64) };
         let t = towns::any_town(&mut random, most.0, most.1);
         let (mut division, mut chosen) = (vec![0; t.n], vec![0; t.k]);
-        let total = slices::free_plan(t.n, t.m, t.k, &t.scores, &t.rows, &mut division, &mut chosen).expect("a right survey");
-        assert_eq!(compare::free_hand(&t, &division, total, &drawn_loads::fitting(&mut random, &t, &division)), 0);
-        if t.k <= t.n {
-            let total = slices::balanced_plan(t.n, t.m, t.k, &t.scores, &t.rows, &mut division, &mut chosen).expect("a right survey");
-            assert_eq!(compare::balanced_hand(&t, &division, total, &drawn_loads::fitting(&mut random, &t, &division)), 0);
+        let kinds: &[Kind] = if t.k <= t.n { &[Kind::Free, Kind::Balanced] } else { &[Kind::Free] };
+        for &kind in kinds {
+            let total = slices::plan(t.n, t.m, t.k, kind, &t.scores, &t.rows, &mut division, &mut chosen).expect("a right survey");
+            let loads = drawn_loads::fitting(&mut random, &t, &division);
+            assert_eq!(compare::hand_plan(&t, kind.into(), &division, total, &loads), 0);
         }
     }
 }
@@ -84,11 +92,11 @@ fn our_plans_pass() {
 #[test]
 fn long_hand_plans() {
     let mut random = Random::new(16);
-    let mut seen = [[0; NUMBERS]; 2];
+    let mut seen: Seen = [[0; NUMBERS]; 3];
     for _ in 0..60 {
         let t = towns::any_town(&mut random, 400, 64);
         let (mut division, mut chosen) = (vec![0; t.n], vec![0; t.k]);
-        slices::free_plan(t.n, t.m, t.k, &t.scores, &t.rows, &mut division, &mut chosen).expect("a right survey");
+        slices::plan(t.n, t.m, t.k, Kind::Free, &t.scores, &t.rows, &mut division, &mut chosen).expect("a right survey");
         try_plan(&mut random, &t, &division, &mut seen);
     }
     for number in [0, 21, 22, 23] {
@@ -101,7 +109,7 @@ fn one_site_for_all(kilograms: u32, litres: u32) -> [u8; 2] {
     let town = Town { n: 400, m: 64, k: 1, scores: vec![0; 64], rows: vec![0; 25_600] };
     let [kilogram_limits, litre_limits] = [(); 2].map(|()| vec![1_000_000; 64]);
     let loads = Loads { kilograms: vec![kilograms; 400], litres: vec![litres; 400], kilogram_limits, litre_limits };
-    [compare::free_hand, compare::balanced_hand].map(|test| test(&town, &[64; 400], 0, &loads))
+    [FREE, BALANCED].map(|kind| compare::hand_plan(&town, kind, &[64; 400], 0, &loads))
 }
 
 #[test]

@@ -1,5 +1,6 @@
 //! The library against an independent implementation (`plain`), written from the documents' text in the plainest way: totals by
 //! definition, rounds played as they are told, every division tried on small towns.
+mod any_kind;
 mod compare;
 mod damaged;
 mod drawn_loads;

@@ -15,15 +15,9 @@ fn town(m: usize, k: usize, scores: &[u16], lists: &[&[u8]]) -> Town {
 /// Total, sites in order of choice, and the site of each street.
 type Plan = Result<(u32, Vec<u8>, Vec<u8>), Refusal>;
 
-fn free(t: &Town) -> Plan {
+fn plan(kind: Kind, t: &Town) -> Plan {
     let (mut division, mut chosen) = (vec![0; t.n], vec![0; t.k]);
-    let total = slices::free_plan(t.n, t.m, t.k, &t.scores, &t.rows, &mut division, &mut chosen)?;
-    Ok((total, chosen, division))
-}
-
-fn balanced(t: &Town) -> Plan {
-    let (mut division, mut chosen) = (vec![0; t.n], vec![0; t.k]);
-    let total = slices::balanced_plan(t.n, t.m, t.k, &t.scores, &t.rows, &mut division, &mut chosen)?;
+    let total = slices::plan(t.n, t.m, t.k, kind, &t.scores, &t.rows, &mut division, &mut chosen)?;
     Ok((total, chosen, division))
 }
 
@@ -50,19 +44,19 @@ const P5_FILE: [u8; 28] = [
 
 #[test]
 fn worked_surveys() {
-    assert_eq!(free(&p1(2)), Ok((7, vec![1, 2], vec![1, 1, 2, 2])));
-    assert_eq!(balanced(&p1(2)), Ok((7, vec![1, 2], vec![1, 1, 2, 2])));
+    assert_eq!(plan(Kind::Free, &p1(2)), Ok((7, vec![1, 2], vec![1, 1, 2, 2])));
+    assert_eq!(plan(Kind::Balanced, &p1(2)), Ok((7, vec![1, 2], vec![1, 1, 2, 2])));
     assert_eq!(floor(&p1(2)), Ok(2));
-    assert_eq!(free(&p3()), Ok((5, vec![3, 1], vec![1, 1, 1, 3, 3, 0])));
-    assert_eq!(balanced(&p3()), Ok((6, vec![1, 2], vec![1, 1, 1, 2, 2, 2])));
-    assert_eq!(balanced(&p5()), Ok((3, vec![1, 2], vec![2, 1])));
+    assert_eq!(plan(Kind::Free, &p3()), Ok((5, vec![3, 1], vec![1, 1, 1, 3, 3, 0])));
+    assert_eq!(plan(Kind::Balanced, &p3()), Ok((6, vec![1, 2], vec![1, 1, 1, 2, 2, 2])));
+    assert_eq!(plan(Kind::Balanced, &p5()), Ok((3, vec![1, 2], vec![2, 1])));
     let all: Vec<u8> = (1..=10).collect();
     assert_eq!(floor(&town(10, 3, &[9, 8, 7, 6, 5, 4, 3, 2, 1, 0], &[&all[..]; 9])), Ok(30));
-    assert_eq!(free(&p1(3)).map(|plan| (plan.0, plan.1)), Ok((8, vec![1, 2, 3])));
-    assert_eq!(balanced(&p1(3)), Ok((8, vec![1, 2, 3], vec![1, 1, 2, 3])));
+    assert_eq!(plan(Kind::Free, &p1(3)).map(|plan| (plan.0, plan.1)), Ok((8, vec![1, 2, 3])));
+    assert_eq!(plan(Kind::Balanced, &p1(3)), Ok((8, vec![1, 2, 3], vec![1, 1, 2, 3])));
     let p8 = town(1, 1, &[7], &[&[]]);
-    assert_eq!(free(&p8), Ok((0, vec![1], vec![0])));
-    assert_eq!(balanced(&p8), Ok((0, vec![1], vec![1])));
+    assert_eq!(plan(Kind::Free, &p8), Ok((0, vec![1], vec![0])));
+    assert_eq!(plan(Kind::Balanced, &p8), Ok((0, vec![1], vec![1])));
 }
 
 /// Ten streets, as in examples/ten-streets.survey.
@@ -82,7 +76,7 @@ fn divided(t: &Town, sites: &[u8]) -> Result<(u32, Vec<u8>), Refusal> {
 #[test]
 fn uneven_shares() {
     assert_eq!(floor(&p1(3)), Ok(5));
-    assert_eq!(balanced(&ten_streets(3)), Ok((34, vec![2, 4, 1], vec![2, 4, 1, 2, 2, 4, 1, 2, 1, 4])));
+    assert_eq!(plan(Kind::Balanced, &ten_streets(3)), Ok((34, vec![2, 4, 1], vec![2, 4, 1, 2, 2, 4, 1, 2, 1, 4])));
     // the first of the list has four streets, the others three
     assert_eq!(divided(&ten_streets(3), &[1, 2, 4]), Ok((33, vec![2, 4, 1, 1, 2, 4, 1, 2, 1, 4])));
     assert_eq!(divided(&ten_streets(3), &[2, 4, 1]), Ok((34, vec![2, 4, 1, 2, 2, 4, 1, 2, 1, 4])));
@@ -92,40 +86,38 @@ fn uneven_shares() {
 #[test]
 fn as_many_sites_as_streets_or_more() {
     let t = town(3, 3, &[2, 1, 0], &[&[1, 2, 3], &[1, 3, 2], &[2, 1]]);
-    assert_eq!(balanced(&t), Ok((5, vec![1, 2, 3], vec![1, 3, 2])));
+    assert_eq!(plan(Kind::Balanced, &t), Ok((5, vec![1, 2, 3], vec![1, 3, 2])));
     assert_eq!(floor(&t), Ok(3));
     let t = town(3, 3, &[2, 1, 0], &[&[1, 2, 3], &[1, 3, 2]]);
-    assert_eq!(balanced(&t), Err(Refusal::Share));
+    assert_eq!(plan(Kind::Balanced, &t), Err(Refusal::Share));
     assert_eq!(floor(&t), Err(Refusal::Share));
     assert_eq!(divided(&t, &[3, 2, 1]), Err(Refusal::Share));
     assert_eq!(divided(&t, &[3, 2]), Ok((2, vec![2, 3])));
     let loads = Loads::none(2, 3);
-    assert_eq!(slices::balanced_hand(2, 3, 3, &t.scores, &t.rows, &[1, 3], 3, loads), Err(Refusal::Share));
+    assert_eq!(slices::hand_plan(2, 3, 3, Kind::Balanced, &t.scores, &t.rows, &[1, 3], 3, loads), Err(Refusal::Share));
     // no other call has this refusal
-    assert_eq!(free(&t), Ok((4, vec![1, 2, 3], vec![1, 1])));
-    assert_eq!(slices::free_hand(2, 3, 3, &t.scores, &t.rows, &[1, 3], 3, loads), Ok(3));
+    assert_eq!(plan(Kind::Free, &t), Ok((4, vec![1, 2, 3], vec![1, 1])));
+    assert_eq!(slices::hand_plan(2, 3, 3, Kind::Free, &t.scores, &t.rows, &[1, 3], 3, loads), Ok(3));
     assert_eq!(slices::list_total(2, 3, &t.scores, &t.rows, &[3, 2, 1]), Ok(4));
-    assert_eq!(slices::write_file(2, 3, 3, Kind::Balanced.into(), &t.scores, &t.rows, &mut [0; 40]), Ok(33));
+    assert_eq!(slices::write_file(2, 3, 3, Kind::Balanced, &t.scores, &t.rows, &mut [0; 40]), Ok(33));
 }
 
 #[test]
 fn uneven_hand_plans() {
-    let t = p1(3);
-    let test =
-        |division: &[u8], claimed| slices::balanced_hand(t.n, t.m, t.k, &t.scores, &t.rows, division, claimed, Loads::none(t.n, t.m));
+    let test = |t: &Town, division: &[u8], claimed| {
+        slices::hand_plan(t.n, t.m, t.k, Kind::Balanced, &t.scores, &t.rows, division, claimed, Loads::none(t.n, t.m))
+    };
     // any of the three may have two streets
-    assert_eq!(test(&[1, 1, 2, 3], 8), Ok(8));
-    assert_eq!(test(&[1, 2, 2, 3], 6), Ok(6));
-    assert_eq!(test(&[1, 3, 2, 3], 7), Ok(7));
-    assert_eq!(test(&[1, 1, 2, 3], 7), Err(Refusal::ClaimedTotal));
+    assert_eq!(test(&p1(3), &[1, 1, 2, 3], 8), Ok(8));
+    assert_eq!(test(&p1(3), &[1, 2, 2, 3], 6), Ok(6));
+    assert_eq!(test(&p1(3), &[1, 3, 2, 3], 7), Ok(7));
+    assert_eq!(test(&p1(3), &[1, 1, 2, 3], 7), Err(Refusal::ClaimedTotal));
     // two sites with two streets each, and three streets at one
-    assert_eq!(test(&[1, 1, 2, 2], 7), Err(Refusal::SitesUsed));
-    assert_eq!(test(&[1, 1, 1, 2], 6), Err(Refusal::SitesUsed));
+    assert_eq!(test(&p1(3), &[1, 1, 2, 2], 7), Err(Refusal::SitesUsed));
+    assert_eq!(test(&p1(3), &[1, 1, 1, 2], 6), Err(Refusal::SitesUsed));
     // of ten streets over three sites no site has five
-    let t = ten_streets(3);
-    let test = |division: &[u8]| slices::balanced_hand(t.n, t.m, t.k, &t.scores, &t.rows, division, 34, Loads::none(t.n, t.m));
-    assert_eq!(test(&[2, 4, 1, 2, 2, 4, 1, 2, 1, 4]), Ok(34));
-    assert_eq!(test(&[2, 4, 1, 2, 2, 4, 2, 2, 1, 4]), Err(Refusal::SitesUsed));
+    assert_eq!(test(&ten_streets(3), &[2, 4, 1, 2, 2, 4, 1, 2, 1, 4], 34), Ok(34));
+    assert_eq!(test(&ten_streets(3), &[2, 4, 1, 2, 2, 4, 2, 2, 1, 4], 34), Err(Refusal::SitesUsed));
 }
 
 /// The two sums of site 1 are 11 and 5, those of site 2 are 15 and 7, each just its limit.
@@ -135,9 +127,9 @@ const LOADS: Loads = Loads { kilograms: &[5, 6, 7, 8], litres: &[1, 4, 3, 4], ki
 fn loads_of_hand_plans() {
     let t = p1(2);
     let both = |loads| {
-        let ours = [slices::free_hand, slices::balanced_hand].map(|test| test(4, 3, 2, &t.scores, &t.rows, &[1, 1, 2, 2], 7, loads));
-        assert_eq!(ours[0], ours[1]);
-        ours[0]
+        let test = |kind| slices::hand_plan(4, 3, 2, kind, &t.scores, &t.rows, &[1, 1, 2, 2], 7, loads);
+        assert_eq!(test(Kind::Free), test(Kind::Balanced));
+        test(Kind::Free)
     };
     assert_eq!(both(LOADS), Ok(7));
     assert_eq!(both(Loads { kilogram_limits: &[11, 14, 0], ..LOADS }), Err(Refusal::Kilograms));
@@ -149,7 +141,7 @@ fn loads_of_hand_plans() {
     assert_eq!(both(Loads { litre_limits: &[4, 7, 1_000_001], ..LOADS }), Err(Refusal::Load));
     assert_eq!(both(Loads { litre_limits: &[5, 7, 1_000_000], ..LOADS }), Ok(7));
     // street 4 is unserved: it loads no site, and its numbers are tried all the same
-    let test = |loads| slices::free_hand(4, 3, 2, &t.scores, &t.rows, &[1, 1, 2, 0], 6, loads);
+    let test = |loads| slices::hand_plan(4, 3, 2, Kind::Free, &t.scores, &t.rows, &[1, 1, 2, 0], 6, loads);
     assert_eq!(test(Loads { kilograms: &[5, 6, 15, 1_000_000], ..LOADS }), Ok(6));
     assert_eq!(test(Loads { kilograms: &[5, 6, 16, 1_000_000], ..LOADS }), Err(Refusal::Kilograms));
     assert_eq!(test(Loads { kilograms: &[5, 6, 15, 1_000_001], ..LOADS }), Err(Refusal::Load));
@@ -159,11 +151,11 @@ fn loads_of_hand_plans() {
 fn worked_file() {
     let t = p5();
     let mut file = [0; 28];
-    assert_eq!(slices::write_file(t.n, t.m, t.k, Kind::Balanced.into(), &t.scores, &t.rows, &mut file), Ok(28));
+    assert_eq!(slices::write_file(t.n, t.m, t.k, Kind::Balanced, &t.scores, &t.rows, &mut file), Ok(28));
     assert_eq!(file, P5_FILE);
     let (mut scores, mut rows) = ([0; SCORES_LENGTH], [0; ROWS_LENGTH]);
-    let sizes = slices::read_file(&file, &mut scores, &mut rows).map(|sizes| [sizes.n, sizes.m, sizes.k, sizes.kind]);
-    assert_eq!(sizes, Ok([2, 2, 2, 1]));
+    let sizes = slices::read_file(&file, &mut scores, &mut rows).map(|sizes| (sizes.n, sizes.m, sizes.k, sizes.kind));
+    assert_eq!(sizes, Ok((2, 2, 2, Kind::Balanced)));
     assert_eq!((&rows[..4], &scores[..2]), (&t.rows[..], &t.scores[..]));
     assert_eq!(slices::read_file(&[], &mut scores, &mut rows), Err(Refusal::FileEnds));
 }
@@ -186,15 +178,17 @@ fn each_refusal() {
         check(4, 3, 2, &t.scores, &rows)
     };
     let list = |sites: &[u8]| slices::list_total(4, 3, &t.scores, &t.rows, sites).unwrap_err();
-    let hand = |division: [u8; 4], claimed, loads| slices::free_hand(4, 3, 2, &t.scores, &t.rows, &division, claimed, loads).unwrap_err();
+    let hand = |division: [u8; 4], claimed, loads| {
+        slices::hand_plan(4, 3, 2, Kind::Free, &t.scores, &t.rows, &division, claimed, loads).unwrap_err()
+    };
     let given = [
         check(0, 3, 2, &t.scores, &t.rows),
         check(4, 65, 2, &t.scores, &t.rows),
         check(4, 3, 4, &t.scores, &t.rows),
-        slices::write_file(4, 3, 2, 2, &t.scores, &t.rows, &mut bytes).unwrap_err(),
+        changed(6, 2, 28),
         floor(&town(3, 3, &[2, 1, 0], &[&[1, 2, 3], &[1, 3, 2]])).unwrap_err(),
         check(4, 3, 2, &t.scores, &t.rows[1..]),
-        slices::write_file(4, 3, 2, 1, &t.scores, &t.rows, &mut bytes).unwrap_err(),
+        slices::write_file(4, 3, 2, Kind::Balanced, &t.scores, &t.rows, &mut bytes).unwrap_err(),
         check(4, 3, 2, &[2, 1, 2], &t.rows),
         with(0, 0),
         with(0, 4),

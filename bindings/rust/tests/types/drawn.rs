@@ -35,15 +35,13 @@ fn rows(t: &Town, survey: &Survey) {
 }
 
 fn plans(random: &mut Random, t: &Town, survey: &Survey, k: usize) {
-    let (mut division, mut chosen) = (vec![0; t.n], vec![0; k.min(t.m)]);
-    let free = slices::free_plan(t.n, t.m, k, &t.scores, &t.rows, &mut division, &mut chosen);
-    let plan = survey.plan(Kind::Free, k);
-    assert_eq!(parts(&plan), free.map(|total| (total, chosen.clone(), division.clone())), "K {k} of {t:?}");
-    hand_plans(random, t, survey, Kind::Free, plan);
-    let balanced = slices::balanced_plan(t.n, t.m, k, &t.scores, &t.rows, &mut division, &mut chosen);
-    let plan = survey.plan(Kind::Balanced, k);
-    assert_eq!(parts(&plan), balanced.map(|total| (total, chosen, division)), "K {k} of {t:?}");
-    hand_plans(random, t, survey, Kind::Balanced, plan);
+    for kind in [Kind::Free, Kind::Balanced] {
+        let (mut division, mut chosen) = (vec![0; t.n], vec![0; k.min(t.m)]);
+        let lent = slices::plan(t.n, t.m, k, kind, &t.scores, &t.rows, &mut division, &mut chosen);
+        let plan = survey.plan(kind, k);
+        assert_eq!(parts(&plan), lent.map(|total| (total, chosen, division)), "{kind:?}, K {k} of {t:?}");
+        hand_plans(random, t, survey, kind, plan);
+    }
     assert_eq!(survey.floor(k), slices::floor(t.n, t.m, k, &t.scores, &t.rows));
 }
 
@@ -67,10 +65,10 @@ fn hand_plans(random: &mut Random, t: &Town, survey: &Survey, kind: Kind, plan: 
         (1, &bytes, plan.total, &fitting),
         (k, &longer, plan.total, &fitting),
     ] {
-        let free = slices::free_hand(t.n, t.m, k, &t.scores, &t.rows, division, claimed, lent(loads));
-        assert_eq!(survey.test_with_loads(&HandPlan::new(Kind::Free, k, division.clone(), claimed), lent(loads)), free);
-        let balanced = slices::balanced_hand(t.n, t.m, k, &t.scores, &t.rows, division, claimed, lent(loads));
-        assert_eq!(survey.test_with_loads(&HandPlan::new(Kind::Balanced, k, division.clone(), claimed), lent(loads)), balanced);
+        for kind in [Kind::Free, Kind::Balanced] {
+            let tested = slices::hand_plan(t.n, t.m, k, kind, &t.scores, &t.rows, division, claimed, lent(loads));
+            assert_eq!(survey.test_with_loads(&HandPlan::new(kind, k, division.clone(), claimed), lent(loads)), tested);
+        }
     }
 }
 

@@ -19,8 +19,8 @@ fn there_and_back() {
         let bytes = file.write().expect("a right file");
         let mut lent = vec![0; FILE_LENGTH];
         let survey = file.survey();
-        let sizes = (survey.streets(), survey.sites(), file.k(), file.kind().into());
-        let length = slices::write_file(sizes.0, sizes.1, sizes.2, sizes.3, survey.scores(), survey.rows(), &mut lent);
+        let (n, m) = (survey.streets(), survey.sites());
+        let length = slices::write_file(n, m, file.k(), file.kind(), survey.scores(), survey.rows(), &mut lent);
         assert_eq!(bytes, lent[..length.expect("a right file")]);
         let read = SurveyFile::read(&bytes).expect("a right file");
         assert_eq!(read, file);
@@ -46,7 +46,7 @@ fn damaged_files() {
         let sizes = slices::read_file(&bytes, &mut [0; SCORES_LENGTH], &mut [0; ROWS_LENGTH]);
         let read = SurveyFile::read(&bytes);
         seen[read.as_ref().err().map_or(0, |refusal| refusal.number() as usize)] += 1;
-        let of_file = |file: SurveyFile| (file.survey().streets(), file.survey().sites(), file.k(), usize::from(file.kind()));
+        let of_file = |file: SurveyFile| (file.survey().streets(), file.survey().sites(), file.k(), file.kind());
         assert_eq!(read.map(of_file), sizes.map(|sizes| (sizes.n, sizes.m, sizes.k, sizes.kind)), "{bytes:?}");
     }
     for number in [0, 1, 2, 3, 4, 8, 10, 11, 12, 13, 14, 15, 16] {

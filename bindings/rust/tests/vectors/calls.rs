@@ -1,5 +1,6 @@
 //! The calls that vectors name: what each is given, what it gives, and the archive's function for it. The functions are the raw ones, since
-//! the safe ones keep back a refused call's total and what it leaves in the four numbers that the reader is lent.
+//! the safe ones take no kind but 0 and 1, and keep back a refused call's total and what it leaves in the four numbers that the reader is
+//! lent.
 use crate::lent::Lent;
 use planner::raw::*;
 use std::collections::BTreeMap;
@@ -46,19 +47,12 @@ pub const CALLS: [Call; 11] = [
     Call { name: "balanced_division", inputs: "n m scores rows sites division-length", outputs: "total division",
            run: |given| pass!(given, planner_balanced_division, n m; scores rows sites division;) },
     Call { name: "plan", inputs: "n m k kind scores rows division-length chosen-length", outputs: "total chosen division",
-           run: |given| match given.kind() {
-               Kind::Free => pass!(given, planner_free_plan, n m k; scores rows division chosen;),
-               Kind::Balanced => pass!(given, planner_balanced_plan, n m k; scores rows division chosen;),
-           } },
+           run: |given| pass!(given, planner_plan, n m k kind; scores rows division chosen;) },
     Call { name: "floor", inputs: "n m k scores rows", outputs: "total",
            run: |given| pass!(given, planner_floor, n m k; scores rows;) },
     Call { name: "hand_plan", inputs: "n m k kind scores rows division claimed kilograms litres kilogram-limits litre-limits", outputs: "total",
-           run: |given| match given.kind() {
-               Kind::Free => pass!(given, planner_free_hand, n m k; scores rows division; claimed;
-                                   kilograms litres kilogram_limits litre_limits),
-               Kind::Balanced => pass!(given, planner_balanced_hand, n m k; scores rows division; claimed;
-                                       kilograms litres kilogram_limits litre_limits),
-           } },
+           run: |given| pass!(given, planner_hand_plan, n m k kind; scores rows division; claimed;
+                              kilograms litres kilogram_limits litre_limits) },
     Call { name: "read_file", inputs: "file rows-length scores-length", outputs: "n m k kind rows.. scores..",
            run: read_file },
     Call { name: "write_file", inputs: "n m k kind scores rows file-length", outputs: "length file..",
@@ -98,15 +92,8 @@ pub fn width(key: &str) -> usize {
     }
 }
 
-/// The kinds of plan that have an entry.
-enum Kind {
-    Free,
-    Balanced,
-}
-
 /// What a call is given, by key: numbers, and memory that is lent.
 pub struct Given {
-    pub place: String,
     pub numbers: BTreeMap<String, u64>,
     pub lent: BTreeMap<String, Lent>,
 }
@@ -123,13 +110,5 @@ impl Given {
 
     fn length(&self, name: &str) -> usize {
         self.lent[&name.replace('_', "-")].length()
-    }
-
-    fn kind(&self) -> Kind {
-        match self.numbers["kind"] {
-            0 => Kind::Free,
-            1 => Kind::Balanced,
-            kind => panic!("{}: no entry has kind {kind}", self.place),
-        }
     }
 }

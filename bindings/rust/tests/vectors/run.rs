@@ -31,7 +31,6 @@ fn run(file: &str, mut block: Block) -> Result<(), Fault> {
     same_keys(&block, &block.outputs, if block.refusal == 0 { call.outputs } else { "" })?;
     for pattern in PATTERNS {
         let mut given = given(call, &block.inputs, pattern)?;
-        given.place = format!("{file}:{}", block.line);
         let total = expected(call, &block, &mut given.lent)?;
         let answer = (call.run)(&mut given);
         let (number, sum) = (answer >> 32, answer & 0xFFFF_FFFF);
@@ -70,7 +69,7 @@ fn same_keys(block: &Block, lines: &[Line], keys: &str) -> Result<(), Fault> {
 
 /// The inputs as the call takes them, and memory for the numbers that it is lent.
 fn given(call: &Call, inputs: &[Line], pattern: u8) -> Result<Given, Fault> {
-    let mut given = Given { place: String::new(), numbers: BTreeMap::new(), lent: BTreeMap::new() };
+    let mut given = Given { numbers: BTreeMap::new(), lent: BTreeMap::new() };
     for line in inputs {
         if let Some(key) = line.key.strip_suffix("-length") {
             let length = one_number(line)? as usize;

@@ -1,8 +1,9 @@
 //! The test of a hand-made plan.
 use super::loads::{sum, Loads};
-use super::refusals::{length, outside, refuse, share, survey, Tried};
+use super::refusals::{length, outside, plan_kind, refuse, survey, Tried};
 use super::shares::shares;
 use super::survey::{division_total, Town};
+use super::FREE;
 
 /// How many of a division's streets go to each site.
 fn counts(town: &Town, division: &[u8]) -> Vec<usize> {
@@ -34,27 +35,20 @@ fn over(town: &Town, division: &[u8], loads: &Loads) -> Tried {
     Ok(())
 }
 
-fn claim(town: &Town, division: &[u8], claimed: u32) -> Tried {
-    refuse(19, division_total(&town.values(), division) != claimed)
-}
-
-pub fn free(town: &Town, division: &[u8], claimed: u32, loads: &Loads) -> Tried {
-    survey(town, town.k, || lengths(town, division, loads))?;
-    too_large(loads)?;
-    outside(0, town.m, division)?;
-    refuse(18, counts(town, division).iter().filter(|&&streets| streets > 0).count() > town.k)?;
-    over(town, division, loads)?;
-    claim(town, division, claimed)
-}
-
-pub fn balanced(town: &Town, division: &[u8], claimed: u32, loads: &Loads) -> Tried {
-    survey(town, town.k, || share(town.n, town.k).and_then(|()| lengths(town, division, loads)))?;
-    too_large(loads)?;
-    outside(1, town.m, division)?;
-    // the sites that are used, largest first, have the shares of the rounds, which fall too
+/// 18: a free plan uses at most K sites; the sites that a balanced one uses, largest first, have the shares of the rounds, which fall too.
+fn used(town: &Town, kind: usize, division: &[u8]) -> Tried {
     let mut used: Vec<usize> = counts(town, division).into_iter().filter(|&streets| streets > 0).collect();
     used.sort_by(|a, b| b.cmp(a));
-    refuse(18, used != shares(town.n, town.k))?;
+    refuse(18, if kind == FREE { used.len() > town.k } else { used != shares(town.n, town.k) })
+}
+
+/// All that a hand-made plan of a kind is tried for.
+pub fn test(town: &Town, kind: usize, division: &[u8], claimed: u32, loads: &Loads) -> Tried {
+    survey(town, town.k, || plan_kind(kind, town.n, town.k).and_then(|()| lengths(town, division, loads)))?;
+    too_large(loads)?;
+    let lowest = if kind == FREE { 0 } else { 1 };
+    outside(lowest, town.m, division)?;
+    used(town, kind, division)?;
     over(town, division, loads)?;
-    claim(town, division, claimed)
+    refuse(19, division_total(&town.values(), division) != claimed)
 }

@@ -8,3 +8,7 @@ pub mod loads;
 pub mod refusals;
 pub mod shares;
 pub mod survey;
+
+/// The two kinds of plan.
+pub const FREE: usize = 0;
+pub const BALANCED: usize = 1;

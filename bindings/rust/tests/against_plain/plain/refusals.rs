@@ -1,5 +1,6 @@
 //! 'Turned down': what each call tries, in document 01's order.
 use super::survey::Town;
+use super::{BALANCED, FREE};
 
 pub type Tried = Result<(), u8>;
 
@@ -24,11 +25,21 @@ pub fn chosen(k: usize, m: usize) -> Tried {
 }
 
 pub fn kind(kind: usize) -> Tried {
-    refuse(4, kind > 1)
+    refuse(4, kind != FREE && kind != BALANCED)
 }
 
 pub fn share(n: usize, k: usize) -> Tried {
     refuse(5, k > n)
+}
+
+/// A plan's kind, and for a balanced plan its shares.
+pub fn plan_kind(sort: usize, n: usize, k: usize) -> Tried {
+    kind(sort)?;
+    if sort == BALANCED {
+        share(n, k)
+    } else {
+        Ok(())
+    }
 }
 
 pub fn length(buffer: usize, exact: usize) -> Tried {
@@ -108,13 +119,9 @@ pub fn balanced_division(town: &Town, given: &[u8], division: usize) -> Tried {
     list(town.m, given)
 }
 
-pub fn free_plan(town: &Town, division: usize, sites: usize) -> Tried {
-    survey(town, town.k, || length(division, town.n).and_then(|()| length(sites, town.k)))
-}
-
-pub fn balanced_plan(town: &Town, division: usize, sites: usize) -> Tried {
+pub fn plan(town: &Town, sort: usize, division: usize, sites: usize) -> Tried {
     survey(town, town.k, || {
-        share(town.n, town.k)?;
+        plan_kind(sort, town.n, town.k)?;
         length(division, town.n)?;
         length(sites, town.k)
     })
