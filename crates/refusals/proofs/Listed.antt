@@ -116,14 +116,17 @@ module _ {i : DivisionInput} {x : ℕ} (tried : Tried balancedDivisionRefusal i 
   balanced-division-fits = balance-fits (i .town .n) (length (i .sites)) (i .division) (listed-own (i .town) (i .sites) _ (passed tried z))
 
 module _ {i : PlanInput} {x : ℕ} (tried : Tried planRefusal i x) (z : x ≡ 0) where
-  pub plan-called : Called (i .town) (i .k)
-  plan-called = called (i .town) (i .k) _ (passed tried z)
-
   -- its buffers have a place for each street and for each site
   pub plan-fits : (length (i .division) ≡ i .town .n) × (length (i .chosen) ≡ i .k)
   plan-fits =
       buffers-fit (i .town .n) (i .k) (i .division) (i .chosen)
       (or-zero (planKindRefusal (i .kind) (i .town .n) (i .k)) _ (own-accepted (i .town) (i .k) _ (passed tried z)) .1)
+
+  -- so the survey is sound, and there is a place for one site at least and for m at most
+  pub plan-asked : Accepted (i .town) × (0 < length (i .chosen)) × (length (i .chosen) ≤ i .town .m)
+  plan-asked =
+      let call = called (i .town) (i .k) _ (passed tried z) in
+      (call .survey, omega (arith, plan-fits .1, call .some), omega (arith, plan-fits .1, call .few))
 
 -- a floor has a sound survey and a number of sites of 1 to m
 pub floor-called : {i : SurveyInput} {x : ℕ} → Tried floorRefusal i x → x ≡ 0 → Called (i .town) (i .k)

@@ -1,7 +1,6 @@
 -- `plan_calls::plan` meets its contract. Assumes nothing.
 use borrow.Author.Needs.{needs}
-use native.Mathlib.Omega.{arith}
-use Rattle.refusals.proofs.Listed.{plan-called, plan-fits}
+use Rattle.refusals.proofs.Listed.{plan-fits, plan-asked}
 use Rattle.plan_calls.proofs.PlanPromises.{plan-refused, free-given, balanced-given}
 use Rattle.plan_calls.proofs.plan.Statement.{statement}
 use Rattle.plan_calls.proofs.plan.Tie as tie
@@ -13,9 +12,8 @@ plan-requires : tie.Need-plan-requires
 plan-requires c κs =
     let tried = c .before .before .before .before .plan-refusal .ensures in
     let z = c .before .before .before .if1 .left in
-    let call = plan-called tried z in
-    let size = plan-fits tried z in
-    ((call .survey, omega (arith, size .1, call .few)), size .0)
+    let asked = plan-asked tried z in
+    ((asked .0, asked .2), plan-fits tried z .0)
 
 returns-2 : tie.Need-returns-2
 returns-2 c =
@@ -29,9 +27,7 @@ plan-requires-2 : tie.Need-plan-requires-2
 plan-requires-2 c κs =
     let tried = c .before .before .before .before .plan-refusal .ensures in
     let z = c .before .before .before .if1 .left in
-    let call = plan-called tried z in
-    let size = plan-fits tried z in
-    ((call .survey, omega (arith, size .1, call .some), omega (arith, size .1, call .few)), size .0)
+    (plan-asked tried z, plan-fits tried z .0)
 
 returns-3 : tie.Need-returns-3
 returns-3 c =
