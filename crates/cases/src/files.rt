@@ -19,10 +19,10 @@ fn written(
 
 // Command 10: the streets, the sites, the chosen, the kind; the scores; the rows; the file's buffer.
 pub fn write_case() {
-    let n = input::number(input::BOUND);
-    let m = input::number(input::BOUND);
-    let k = input::number(input::BOUND);
-    let kind = input::number(input::BOUND);
+    let n = input::number();
+    let m = input::number();
+    let k = input::number();
+    let kind = input::number();
     let s = input::scores_list();
     let r = input::bytes_list();
     let f = input::bytes_list();

@@ -1,4 +1,4 @@
-// Cases of hand plans. Commands 12 and 13 have no loads: each street brings 0, and each limit is the greatest one. Commands 14 and 15 read them.
+// Cases of hand plans. Commands 12 and 13 have no loads: each street brings 0, and each limit is the greatest one. Commands 14, 15 and 17 read them.
 use crate::input;
 use crate::input::Loads;
 use crate::say;
@@ -7,51 +7,6 @@ ghost use Rattle.io.specs.Counts.{Counts};
 
 // the greatest limit
 const MOST: u32 = 1000000;
-
-// The test of a hand plan, balanced or free.
-fn hand_of(
-    balanced: bool,
-    n: usize,
-    m: usize,
-    k: usize,
-    scores: &[u16],
-    rows: &[u8],
-    division: &[u8],
-    claimed: u32,
-    kilograms: &[u32],
-    litres: &[u32],
-    kilogram_limits: &[u32],
-    litre_limits: &[u32],
-) -> Answer {
-    if balanced {
-        return planner::balanced_hand(
-            n,
-            m,
-            k,
-            scores,
-            rows,
-            division,
-            claimed,
-            kilograms,
-            litres,
-            kilogram_limits,
-            litre_limits,
-        );
-    }
-    planner::free_hand(
-        n,
-        m,
-        k,
-        scores,
-        rows,
-        division,
-        claimed,
-        kilograms,
-        litres,
-        kilogram_limits,
-        litre_limits,
-    )
-}
 
 // A list of loads or limits: the next one of the input, or where the case has none `len` times the same.
 fn loads(loaded: bool, each: u32, len: usize) -> Loads
@@ -65,16 +20,16 @@ fn loads(loaded: bool, each: u32, len: usize) -> Loads
 
 // What stands behind the division in a case: the claimed total; the kilograms; the litres; the limits of both.
 fn loaded_hand(
-    balanced: bool,
     loaded: bool,
     n: usize,
     m: usize,
     k: usize,
+    kind: usize,
     scores: &[u16],
     rows: &[u8],
     division: &[u8],
 ) -> Answer {
-    let claimed = input::number(input::TOTALS_BOUND);
+    let claimed = input::below(input::TOTALS_BOUND);
     let a = loads(loaded, 0, n);
     let b = loads(loaded, 0, n);
     let c = loads(loaded, MOST, m);
@@ -87,11 +42,11 @@ fn loaded_hand(
     let c_len = c.len;
     let litre_limits = d.buffer;
     let d_len = d.len;
-    hand_of(
-        balanced,
+    planner::hand_plan(
         n,
         m,
         k,
+        kind,
         scores,
         rows,
         division,
@@ -104,11 +59,11 @@ fn loaded_hand(
 }
 
 // Commands 12, free, and 13, balanced: the streets, the sites, the chosen; the scores; the rows; the division; the claimed total. Commands 14 and 15
-// are the same with loads.
-pub fn hand_case(balanced: bool, loaded: bool) {
-    let n = input::number(input::BOUND);
-    let m = input::number(input::BOUND);
-    let k = input::number(input::BOUND);
+// are the same with loads, and command 17 also with the kind before them.
+pub fn hand_case(kind: usize, loaded: bool) {
+    let n = input::number();
+    let m = input::number();
+    let k = input::number();
     let s = input::scores_list();
     let r = input::bytes_list();
     let d = input::bytes_list();
@@ -119,11 +74,11 @@ pub fn hand_case(balanced: bool, loaded: bool) {
     let division = d.buffer;
     let d_len = d.len;
     say::answer(loaded_hand(
-        balanced,
         loaded,
         n,
         m,
         k,
+        kind,
         &scores[..s_len],
         &rows[..r_len],
         &division[..d_len],

@@ -1,11 +1,14 @@
 // The input of the cases: decimal numbers, which every other byte only separates. A list is its length, a count, and that many values, which stand
 // first in the list, before zeros.
 use libc::STDIN_FILENO;
-ghost use Prim.Native.Nat.{_≤_, _<_};
+ghost use Prim.Native.Nat.{_<_};
 ghost use Rattle.io.specs.Counts.{Counts};
 
 // the most bytes up to the end of a number
 const GAP: usize = 10000;
+
+// ten times what is below this is still a number
+const TENTH: usize = 1844674407370955162;
 
 // the longest lists of scores, of bytes, and of loads or limits
 const SCORES: usize = 65;
@@ -14,14 +17,12 @@ const BYTES: usize = 26000;
 
 const LOADS: usize = 401;
 
-// what is above the length of a list, above every number, and above every total, load and limit
+// what is above the length of a list, and above every total, load and limit
 const SCORES_BOUND: usize = SCORES + 1;
 
 const BYTES_BOUND: usize = BYTES + 1;
 
 const LOADS_BOUND: usize = LOADS + 1;
-
-pub const BOUND: usize = 10000000000000;
 
 pub const TOTALS_BOUND: usize = 4294967296;
 
@@ -50,19 +51,15 @@ fn digit() -> u8 {
     std::num::wrapping_sub_u8(byte[0], b'0')
 }
 
-// The next number, and 0 where none is left. It counts modulo `bound`, which is above it in every case.
-pub fn number(bound: usize) -> usize
-    requires { ⌜ 0 < bound ⌝ }
-    requires { ⌜ bound ≤ 10000000000000 ⌝ }
-    ensures { λ r. ⌜ r < bound ⌝ }
-{
+// The next number, and 0 where none is left. Every number of 64 bits can be read, and no case has a greater one.
+pub fn number() -> usize {
     let mut value: usize = 0;
     let mut begun = false;
     for i in 0..GAP {
         let d = digit();
         if d <= 9 {
             begun = true;
-            value = (value * 10 + d as usize) % bound;
+            value = std::num::wrapping_add_usize(value % TENTH * 10, d as usize);
         } else {
             if begun {
                 return value;
@@ -72,15 +69,23 @@ pub fn number(bound: usize) -> usize
     value
 }
 
+// The next number, modulo a bound, which is above it in every case.
+pub fn below(bound: usize) -> usize
+    requires { ⌜ 0 < bound ⌝ }
+    ensures { λ r. ⌜ r < bound ⌝ }
+{
+    number() % bound
+}
+
 // The next list, of scores.
 pub fn scores_list() -> Scores
     ensures { λ r. ⌜ Counts (r .len) (r .buffer) ⌝ }
 {
-    let len = number(SCORES_BOUND);
-    let count = number(SCORES_BOUND);
+    let len = below(SCORES_BOUND);
+    let count = below(SCORES_BOUND);
     let mut buffer = [0u16; SCORES];
     for i in 0..count {
-        buffer[i] = number(65536) as u16;
+        buffer[i] = below(65536) as u16;
     }
     Scores {
         buffer: buffer,
@@ -92,11 +97,11 @@ pub fn scores_list() -> Scores
 pub fn bytes_list() -> Bytes
     ensures { λ r. ⌜ Counts (r .len) (r .buffer) ⌝ }
 {
-    let len = number(BYTES_BOUND);
-    let count = number(BYTES_BOUND);
+    let len = below(BYTES_BOUND);
+    let count = below(BYTES_BOUND);
     let mut buffer = [0u8; BYTES];
     for i in 0..count {
-        buffer[i] = number(256) as u8;
+        buffer[i] = below(256) as u8;
     }
     Bytes {
         buffer: buffer,
@@ -108,11 +113,11 @@ pub fn bytes_list() -> Bytes
 pub fn loads_list() -> Loads
     ensures { λ r. ⌜ Counts (r .len) (r .buffer) ⌝ }
 {
-    let len = number(LOADS_BOUND);
-    let count = number(LOADS_BOUND);
+    let len = below(LOADS_BOUND);
+    let count = below(LOADS_BOUND);
     let mut buffer = [0u32; LOADS];
     for i in 0..count {
-        buffer[i] = number(TOTALS_BOUND) as u32;
+        buffer[i] = below(TOTALS_BOUND) as u32;
     }
     Loads {
         buffer: buffer,

@@ -9,15 +9,15 @@ mod plans;
 mod say;
 
 // the last command, and the most cases
-const LAST: usize = 15;
+const LAST: usize = 17;
 
 const CASES: u64 = 10000;
 
 // Command 1: the streets, the sites, the chosen; the scores; the rows.
 fn check_case() {
-    let n = input::number(input::BOUND);
-    let m = input::number(input::BOUND);
-    let k = input::number(input::BOUND);
+    let n = input::number();
+    let m = input::number();
+    let k = input::number();
     let s = input::scores_list();
     let r = input::bytes_list();
     let scores = s.buffer;
@@ -29,10 +29,10 @@ fn check_case() {
 
 // Command 2: the sites; the scores; the row; the site.
 fn row_case() {
-    let m = input::number(input::BOUND);
+    let m = input::number();
     let s = input::scores_list();
     let r = input::bytes_list();
-    let site = input::number(256);
+    let site = input::below(256);
     let scores = s.buffer;
     let s_len = s.len;
     let row = r.buffer;
@@ -62,16 +62,18 @@ fn one_case(case: u64, command: usize) -> bool {
         3 => part_case(),
         4 => plans::list_case(),
         5 => plans::division_case(false),
-        6 => plans::plan_case(false),
+        6 => plans::plan_case(0),
         7 => plans::division_case(true),
-        8 => plans::plan_case(true),
+        8 => plans::plan_case(1),
         9 => plans::floor_case(),
         10 => files::write_case(),
         11 => files::read_case(),
-        12 => hands::hand_case(false, false),
-        13 => hands::hand_case(true, false),
-        14 => hands::hand_case(false, true),
-        _ => hands::hand_case(true, true),
+        12 => hands::hand_case(0, false),
+        13 => hands::hand_case(1, false),
+        14 => hands::hand_case(0, true),
+        15 => hands::hand_case(1, true),
+        16 => plans::plan_case(input::number()),
+        _ => hands::hand_case(input::number(), true),
     }
     io::write_all(STDOUT_FILENO, b"\n");
     true
@@ -80,7 +82,7 @@ fn one_case(case: u64, command: usize) -> bool {
 // Every case, up to a 0 in a command's place or to where no number is left.
 fn main() {
     for case in 0..CASES {
-        let command = input::number(input::BOUND);
+        let command = input::number();
         if command == 0 {
             return;
         }

@@ -5,8 +5,8 @@ use planner::Answer;
 
 // Command 4: the streets, the sites; the scores; the rows; the list of sites.
 pub fn list_case() {
-    let n = input::number(input::BOUND);
-    let m = input::number(input::BOUND);
+    let n = input::number();
+    let m = input::number();
     let s = input::scores_list();
     let r = input::bytes_list();
     let l = input::bytes_list();
@@ -51,8 +51,8 @@ fn divided(
 
 // Commands 5, free, and 7, balanced: the streets, the sites; the scores; the rows; the list of sites; the division's buffer.
 pub fn division_case(balanced: bool) {
-    let n = input::number(input::BOUND);
-    let m = input::number(input::BOUND);
+    let n = input::number();
+    let m = input::number();
     let s = input::scores_list();
     let r = input::bytes_list();
     let l = input::bytes_list();
@@ -76,45 +76,28 @@ pub fn division_case(balanced: bool) {
     );
 }
 
-// A plan, balanced or free.
-fn plan_of(
-    balanced: bool,
-    n: usize,
-    m: usize,
-    k: usize,
-    scores: &[u16],
-    rows: &[u8],
-    division: &mut [u8],
-    chosen: &mut [u8],
-) -> Answer {
-    if balanced {
-        return planner::balanced_plan(n, m, k, scores, rows, division, chosen);
-    }
-    planner::free_plan(n, m, k, scores, rows, division, chosen)
-}
-
 // A plan, and its buffers.
 fn planned(
-    balanced: bool,
     n: usize,
     m: usize,
     k: usize,
+    kind: usize,
     scores: &[u16],
     rows: &[u8],
     division: &mut [u8],
     chosen: &mut [u8],
 ) {
-    say::answer(plan_of(balanced, n, m, k, scores, rows, division, chosen));
+    say::answer(planner::plan(n, m, k, kind, scores, rows, division, chosen));
     say::buffer(b" division", division);
     say::buffer(b" chosen", chosen);
 }
 
 // Commands 6, free, and 8, balanced: the streets, the sites, the chosen; the scores; the rows; the buffers of the division and of the chosen
-// sites.
-pub fn plan_case(balanced: bool) {
-    let n = input::number(input::BOUND);
-    let m = input::number(input::BOUND);
-    let k = input::number(input::BOUND);
+// sites. Command 16 is the same with the kind before them.
+pub fn plan_case(kind: usize) {
+    let n = input::number();
+    let m = input::number();
+    let k = input::number();
     let s = input::scores_list();
     let r = input::bytes_list();
     let d = input::bytes_list();
@@ -128,10 +111,10 @@ pub fn plan_case(balanced: bool) {
     let mut chosen = c.buffer;
     let c_len = c.len;
     planned(
-        balanced,
         n,
         m,
         k,
+        kind,
         &scores[..s_len],
         &rows[..r_len],
         &mut division[..d_len],
@@ -141,9 +124,9 @@ pub fn plan_case(balanced: bool) {
 
 // Command 9: the streets, the sites, the chosen; the scores; the rows.
 pub fn floor_case() {
-    let n = input::number(input::BOUND);
-    let m = input::number(input::BOUND);
-    let k = input::number(input::BOUND);
+    let n = input::number();
+    let m = input::number();
+    let k = input::number();
     let s = input::scores_list();
     let r = input::bytes_list();
     let scores = s.buffer;

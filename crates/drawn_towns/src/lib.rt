@@ -4,6 +4,7 @@ ghost use Prim.Native.Nat.{_≤_, _<_};
 ghost use lib.ListN.{length};
 ghost use Rattle.drawn_towns.specs.Small.{Small};
 
+pub mod asked;
 pub mod loads;
 
 // the most streets, sites and bytes of rows

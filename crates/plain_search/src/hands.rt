@@ -1,9 +1,11 @@
 // What a hand-made plan of a small town is refused for, and 0 where it is right.
+use crate::asked;
 use crate::loads;
 use crate::scores;
 use crate::shares;
 use drawn_towns::STREETS;
 use drawn_towns::Town;
+use drawn_towns::asked::Asked;
 use drawn_towns::loads::Loads;
 ghost use Rattle.drawn_towns.specs.Sized.{Sized};
 ghost use Rattle.drawn_towns.specs.Small.{Small};
@@ -23,14 +25,6 @@ fn is_out_of_range(town: Town, division: [u8; STREETS], low: u8) -> bool
     false
 }
 
-// Whether a number lies from one to another.
-fn is_between(x: usize, least: usize, most: usize) -> bool {
-    if x < least {
-        return false;
-    }
-    x <= most
-}
-
 // How many sites have from `least` to `most` streets.
 fn sites_with(town: Town, division: [u8; STREETS], least: usize, most: usize) -> usize
     requires { ⌜ Small town ⌝ }
@@ -38,7 +32,7 @@ fn sites_with(town: Town, division: [u8; STREETS], least: usize, most: usize) ->
     let mut count: usize = 0;
     for i in 0..town.m {
         let streets = scores::streets_of(division, town.n, (i + 1) as u8);
-        count = scores::add_if(count, is_between(streets, least, most));
+        count = scores::add_if(count, asked::is_between(streets, least, most));
     }
     count
 }
@@ -90,42 +84,35 @@ fn balanced_sites(town: Town, division: [u8; STREETS]) -> u8
 }
 
 // What a plan of one kind is refused for in its sites.
-fn sites_refusal(town: Town, balanced: bool, division: [u8; STREETS]) -> u8
+fn sites_refusal(town: Town, kind: usize, division: [u8; STREETS]) -> u8
     requires { ⌜ Small town ⌝ }
 {
-    if balanced {
-        return balanced_sites(town, division);
+    if kind == 0 {
+        return free_sites(town, division);
     }
-    free_sites(town, division)
+    balanced_sites(town, division)
 }
 
-// What a plan is refused for in its loads' own numbers; before that, 5 where it is balanced and its sites are more than the streets.
-fn given_refusal(town: Town, balanced: bool, loads: Loads) -> u8
+// What a plan is refused for before its sites are looked at: in what it is asked for, and in its loads' own numbers.
+fn given_refusal(town: Town, asked: Asked, loads: Loads) -> u8
     requires { ⌜ Small town × Sized loads ⌝ }
 {
-    if balanced {
-        if town.n < town.k {
-            return 5;
-        }
+    let x = asked::refusal(asked);
+    if x != 0 {
+        return x;
     }
     loads::numbers_refusal(town, loads)
 }
 
-// A plan, balanced or free, with its loads.
-pub fn refusal(
-    town: Town,
-    balanced: bool,
-    division: [u8; STREETS],
-    claimed: u32,
-    loads: Loads,
-) -> u8
+// A plan with its loads. Where it is not refused for what it is asked for, it is asked for with the town's sizes.
+pub fn refusal(town: Town, asked: Asked, division: [u8; STREETS], claimed: u32, loads: Loads) -> u8
     requires { ⌜ Small town × Sized loads ⌝ }
 {
-    let x = given_refusal(town, balanced, loads);
+    let x = given_refusal(town, asked, loads);
     if x != 0 {
         return x;
     }
-    let x = sites_refusal(town, balanced, division);
+    let x = sites_refusal(town, asked.kind, division);
     if x != 0 {
         return x;
     }

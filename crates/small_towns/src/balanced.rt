@@ -12,7 +12,7 @@ ghost use Prim.Native.Nat.{_≤_};
 ghost use Rattle.drawn_towns.specs.Small.{Small};
 
 // Whether the streets are too few to give each of the k sites one.
-pub fn is_short(town: Town) -> bool
+fn is_short(town: Town) -> bool
     requires { ⌜ Small town ⌝ }
 {
     town.n < town.k
@@ -42,13 +42,10 @@ fn right_division(town: Town) -> Given
     best(town, [UNTOUCHED; SITES])
 }
 
-// The plan that is right for the town: the sites of the rounds, and the best division over them.
-fn right_plan(town: Town) -> Given
+// The plan that is right for the town, if the streets are enough: the sites of the rounds, and the best division over them.
+pub fn right_plan(town: Town) -> Given
     requires { ⌜ Small town ⌝ }
 {
-    if is_short(town) {
-        return answers::plain(0, 5);
-    }
     let chosen = rounds::sites(town);
     best(drawn_towns::listing(town, chosen, town.k), chosen)
 }
@@ -76,28 +73,10 @@ pub fn wrong_division(town: Town, shown: bool) -> u64
     )
 }
 
-// 1 where the plan is not right, else 0.
-pub fn wrong_plan(town: Town, shown: bool) -> u64
-    requires { ⌜ Small town ⌝ }
-    ensures { λ r. ⌜ r ≤ 1 ⌝ }
-{
-    answers::wrong(town, entries::plan(town, true), right_plan(town), shown)
-}
-
 // 1 where the floor is not right, else 0.
 pub fn wrong_floor(town: Town, shown: bool) -> u64
     requires { ⌜ Small town ⌝ }
     ensures { λ r. ⌜ r ≤ 1 ⌝ }
 {
     answers::wrong(town, entries::floor(town), right_floor(town), shown)
-}
-
-// 1 where the plan totals less than the floor, else 0.
-pub fn wrong_bound(town: Town, shown: bool) -> u64
-    requires { ⌜ Small town ⌝ }
-    ensures { λ r. ⌜ r ≤ 1 ⌝ }
-{
-    let plan = entries::plan(town, true);
-    let floor = entries::floor(town);
-    answers::fails(town, floor.total <= plan.total, shown)
 }

@@ -5,6 +5,7 @@ use crate::answers::UNTOUCHED;
 use drawn_towns::SITES;
 use drawn_towns::STREETS;
 use drawn_towns::Town;
+use drawn_towns::asked::Asked;
 use drawn_towns::loads::Loads;
 use planner::Answer;
 ghost use Prim.Native.Nat.{_≤_};
@@ -25,33 +26,6 @@ fn divided(
         return planner::balanced_division(n, m, scores, rows, sites, division);
     }
     planner::free_division(n, m, scores, rows, sites, division)
-}
-
-// A plan of k sites, balanced or free.
-fn planned(
-    balanced: bool,
-    n: usize,
-    m: usize,
-    k: usize,
-    scores: &[u16],
-    rows: &[u8],
-    division: &mut [u8],
-    chosen: &mut [u8],
-) -> Answer {
-    if balanced {
-        return planner::balanced_plan(n, m, k, scores, rows, division, chosen);
-    }
-    planner::free_plan(n, m, k, scores, rows, division, chosen)
-}
-
-// The total of a list.
-fn totalled(n: usize, m: usize, scores: &[u16], rows: &[u8], sites: &[u8]) -> Answer {
-    planner::list_total(n, m, scores, rows, sites)
-}
-
-// The floor of k sites.
-fn floored(n: usize, m: usize, k: usize, scores: &[u16], rows: &[u8]) -> Answer {
-    planner::floor(n, m, k, scores, rows)
 }
 
 // The division over a town's list.
@@ -78,8 +52,8 @@ pub fn division(town: Town, balanced: bool) -> Given
     answers::told(answer, division, [UNTOUCHED; SITES])
 }
 
-// The plan of a town's k sites.
-pub fn plan(town: Town, balanced: bool) -> Given
+// The plan that is asked for, over a town's survey, with buffers for its streets and its k sites.
+pub fn plan(town: Town, asked: Asked) -> Given
     requires { ⌜ Small town ⌝ }
 {
     let n = town.n;
@@ -90,11 +64,11 @@ pub fn plan(town: Town, balanced: bool) -> Given
     let rows = town.rows;
     let mut division = [UNTOUCHED; STREETS];
     let mut chosen = [UNTOUCHED; SITES];
-    let answer = planned(
-        balanced,
-        n,
-        m,
-        k,
+    let answer = planner::plan(
+        asked.n,
+        asked.m,
+        asked.k,
+        asked.kind,
         &scores[..m],
         &rows[..len],
         &mut division[..n],
@@ -113,7 +87,7 @@ pub fn list_total(town: Town) -> Given
     let scores = town.scores;
     let rows = town.rows;
     let sites = town.sites;
-    let answer = totalled(town.n, m, &scores[..m], &rows[..len], &sites[..k]);
+    let answer = planner::list_total(town.n, m, &scores[..m], &rows[..len], &sites[..k]);
     answers::told_alone(answer)
 }
 
@@ -125,53 +99,8 @@ pub fn floor(town: Town) -> Given
     let len = town.len;
     let scores = town.scores;
     let rows = town.rows;
-    let answer = floored(town.n, m, town.k, &scores[..m], &rows[..len]);
+    let answer = planner::floor(town.n, m, town.k, &scores[..m], &rows[..len]);
     answers::told_alone(answer)
-}
-
-// The test of a hand plan with its loads, balanced or free.
-fn tested(
-    balanced: bool,
-    n: usize,
-    m: usize,
-    k: usize,
-    scores: &[u16],
-    rows: &[u8],
-    division: &[u8],
-    claimed: u32,
-    kilograms: &[u32],
-    litres: &[u32],
-    kilogram_limits: &[u32],
-    litre_limits: &[u32],
-) -> Answer {
-    if balanced {
-        return planner::balanced_hand(
-            n,
-            m,
-            k,
-            scores,
-            rows,
-            division,
-            claimed,
-            kilograms,
-            litres,
-            kilogram_limits,
-            litre_limits,
-        );
-    }
-    planner::free_hand(
-        n,
-        m,
-        k,
-        scores,
-        rows,
-        division,
-        claimed,
-        kilograms,
-        litres,
-        kilogram_limits,
-        litre_limits,
-    )
 }
 
 // How many entries of a buffer are lent: all of them, or one fewer.
@@ -186,20 +115,15 @@ fn lent(len: usize, is_short: bool) -> usize
     len
 }
 
-// The test of a hand plan of a small town, whose loads' buffers are lent here.
-fn tested_with(
-    balanced: bool,
-    n: usize,
-    m: usize,
-    k: usize,
-    scores: &[u16],
-    rows: &[u8],
-    division: &[u8],
-    claimed: u32,
-    loads: Loads,
-) -> Answer
-    requires { ⌜ (n ≤ 8) × (m ≤ 5) × Sized loads ⌝ }
+// The test of a hand plan that is asked for, over a town's survey, with its loads.
+pub fn hand(town: Town, asked: Asked, division: [u8; STREETS], claimed: u32, loads: Loads) -> Given
+    requires { ⌜ Small town × Sized loads ⌝ }
 {
+    let n = town.n;
+    let m = town.m;
+    let len = town.len;
+    let scores = town.scores;
+    let rows = town.rows;
     let kilograms = loads.kilograms.streets;
     let litres = loads.litres.streets;
     let kilogram_limits = loads.kilograms.limits;
@@ -208,47 +132,19 @@ fn tested_with(
     let b = lent(n, loads.short == 2);
     let c = lent(m, loads.short == 3);
     let d = lent(m, loads.short == 4);
-    tested(
-        balanced,
-        n,
-        m,
-        k,
-        scores,
-        rows,
-        division,
+    let answer = planner::hand_plan(
+        asked.n,
+        asked.m,
+        asked.k,
+        asked.kind,
+        &scores[..m],
+        &rows[..len],
+        &division[..n],
         claimed,
         &kilograms[..a],
         &litres[..b],
         &kilogram_limits[..c],
         &litre_limits[..d],
-    )
-}
-
-// The test of a town's plan with its loads.
-pub fn hand(
-    town: Town,
-    balanced: bool,
-    division: [u8; STREETS],
-    claimed: u32,
-    loads: Loads,
-) -> Given
-    requires { ⌜ Small town × Sized loads ⌝ }
-{
-    let n = town.n;
-    let m = town.m;
-    let len = town.len;
-    let scores = town.scores;
-    let rows = town.rows;
-    let answer = tested_with(
-        balanced,
-        n,
-        m,
-        town.k,
-        &scores[..m],
-        &rows[..len],
-        &division[..n],
-        claimed,
-        loads,
     );
     answers::told_alone(answer)
 }

@@ -9,31 +9,19 @@ use plain_search::sets;
 ghost use Prim.Native.Nat.{_≤_};
 ghost use Rattle.drawn_towns.specs.Small.{Small};
 
-// 1 where the free plan is not that of the greedy rounds, else 0.
-pub fn wrong_plan(town: Town, shown: bool) -> u64
+// The plan that is right for the town: the sites of the greedy rounds, and where the streets go among them.
+pub fn right_plan(town: Town) -> Given
     requires { ⌜ Small town ⌝ }
-    ensures { λ r. ⌜ r ≤ 1 ⌝ }
 {
     let choice = sets::greedy(town);
     let set = choice.set;
     let chosen = choice.sites;
-    let right = Given {
+    Given {
         total: sets::set_total(town, set),
         refused: 0,
         division: sets::division(town, set),
         chosen,
-    };
-    answers::wrong(town, entries::plan(town, false), right, shown)
-}
-
-// 1 where the free plan is farther from the best k sites than the bound has it, else 0.
-pub fn wrong_bound(town: Town, shown: bool) -> u64
-    requires { ⌜ Small town ⌝ }
-    ensures { λ r. ⌜ r ≤ 1 ⌝ }
-{
-    let given = entries::plan(town, false);
-    let near = sets::is_near(town.k, sets::best_total(town), given.total);
-    answers::fails(town, near, shown)
+    }
 }
 
 // 1 where the free division over the town's list is another one, else 0.

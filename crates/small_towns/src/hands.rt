@@ -8,6 +8,7 @@ use crate::loads::NUMBERS;
 use drawn_towns::SITES;
 use drawn_towns::STREETS;
 use drawn_towns::Town;
+use drawn_towns::asked::Asked;
 use plain_search::scores;
 ghost use Prim.Native.Nat.{_≤_};
 ghost use Rattle.drawn_towns.specs.Small.{Small};
@@ -17,7 +18,7 @@ fn wrong_test(
     seed: &mut u64,
     numbers: &mut [u64; NUMBERS],
     town: Town,
-    balanced: bool,
+    asked: Asked,
     division: [u8; STREETS],
     claimed: u32,
     shown: bool,
@@ -26,31 +27,21 @@ fn wrong_test(
     ensures { λ r. ⌜ r ≤ 3 ⌝ }
 {
     let none = drawn_towns::loads::none();
-    let given = entries::hand(town, balanced, division, claimed, none);
-    let right = loads::right_answer(town, balanced, division, claimed, none);
+    let given = entries::hand(town, asked, division, claimed, none);
+    let right = loads::right_answer(town, asked, division, claimed, none);
     let count = answers::wrong(town, given, right, shown);
-    count
-        + loads::wrong_loaded(
-            seed,
-            numbers,
-            town,
-            balanced,
-            division,
-            claimed,
-            given,
-            shown,
-        )
+    count + loads::wrong_loaded(seed, numbers, town, asked, division, claimed, given, shown)
 }
 
 // 1 where a plan of ours does not pass its own test, else 0. Where there is none, the test has to refuse with the same number.
-fn wrong_own(town: Town, balanced: bool, plan: Given, shown: bool) -> u64
+fn wrong_own(town: Town, asked: Asked, plan: Given, shown: bool) -> u64
     requires { ⌜ Small town ⌝ }
     ensures { λ r. ⌜ r ≤ 1 ⌝ }
 {
     let division = plan.division;
     let given = entries::hand(
         town,
-        balanced,
+        asked,
         division,
         plan.total,
         drawn_towns::loads::none(),
@@ -64,7 +55,7 @@ fn wrong_with_own_total(
     seed: &mut u64,
     numbers: &mut [u64; NUMBERS],
     town: Town,
-    balanced: bool,
+    asked: Asked,
     division: [u8; STREETS],
     shown: bool,
 ) -> u64
@@ -72,7 +63,7 @@ fn wrong_with_own_total(
     ensures { λ r. ⌜ r ≤ 3 ⌝ }
 {
     let own = scores::total(town, division);
-    wrong_test(seed, numbers, town, balanced, division, own, shown)
+    wrong_test(seed, numbers, town, asked, division, own, shown)
 }
 
 // How many answers about plans with one street's site changed are wrong: with their own totals, and with the plan's.
@@ -80,7 +71,7 @@ fn wrong_changed(
     seed: &mut u64,
     numbers: &mut [u64; NUMBERS],
     town: Town,
-    balanced: bool,
+    asked: Asked,
     division: [u8; STREETS],
     total: u32,
     shown: bool,
@@ -91,8 +82,8 @@ fn wrong_changed(
     let mut changed = division;
     let s = drawn_towns::draw(seed, town.n);
     changed[s] = drawn_towns::draw(seed, town.m + 2) as u8;
-    let count = wrong_with_own_total(seed, numbers, town, balanced, changed, shown);
-    count + wrong_test(seed, numbers, town, balanced, changed, total, shown)
+    let count = wrong_with_own_total(seed, numbers, town, asked, changed, shown);
+    count + wrong_test(seed, numbers, town, asked, changed, total, shown)
 }
 
 // A division with a drawn street moved to a drawn one of the k chosen sites.
@@ -111,7 +102,7 @@ fn wrong_moved(
     seed: &mut u64,
     numbers: &mut [u64; NUMBERS],
     town: Town,
-    balanced: bool,
+    asked: Asked,
     plan: Given,
     shown: bool,
 ) -> u64
@@ -122,8 +113,8 @@ fn wrong_moved(
     let chosen = plan.chosen;
     let once = moved(seed, town, division, chosen);
     let twice = moved(seed, town, once, chosen);
-    let count = wrong_with_own_total(seed, numbers, town, balanced, once, shown);
-    count + wrong_with_own_total(seed, numbers, town, balanced, twice, shown)
+    let count = wrong_with_own_total(seed, numbers, town, asked, once, shown);
+    count + wrong_with_own_total(seed, numbers, town, asked, twice, shown)
 }
 
 // A division that gives each street a drawn site of 1 to m.
@@ -142,14 +133,14 @@ fn wrong_drawn(
     seed: &mut u64,
     numbers: &mut [u64; NUMBERS],
     town: Town,
-    balanced: bool,
+    asked: Asked,
     shown: bool,
 ) -> u64
     requires { ⌜ Small town ⌝ }
     ensures { λ r. ⌜ r ≤ 3 ⌝ }
 {
     let division = drawn(seed, town);
-    wrong_with_own_total(seed, numbers, town, balanced, division, shown)
+    wrong_with_own_total(seed, numbers, town, asked, division, shown)
 }
 
 // How many answers about the town's plan, plans made from it, and a drawn one are wrong.
@@ -157,20 +148,20 @@ pub fn wrong_hands(
     seed: &mut u64,
     numbers: &mut [u64; NUMBERS],
     town: Town,
-    balanced: bool,
+    asked: Asked,
+    plan: Given,
     shown: bool,
 ) -> u64
     requires { ⌜ Small town ⌝ }
     ensures { λ r. ⌜ r ≤ 22 ⌝ }
 {
-    let plan = entries::plan(town, balanced);
     let division = plan.division;
     let total = plan.total;
     let higher = std::num::wrapping_add_u32(total, 1);
-    let mut count = wrong_own(town, balanced, plan, shown);
-    count = count + wrong_test(seed, numbers, town, balanced, division, total, shown);
-    count = count + wrong_test(seed, numbers, town, balanced, division, higher, shown);
-    count = count + wrong_changed(seed, numbers, town, balanced, division, total, shown);
-    count = count + wrong_moved(seed, numbers, town, balanced, plan, shown);
-    count + wrong_drawn(seed, numbers, town, balanced, shown)
+    let mut count = wrong_own(town, asked, plan, shown);
+    count = count + wrong_test(seed, numbers, town, asked, division, total, shown);
+    count = count + wrong_test(seed, numbers, town, asked, division, higher, shown);
+    count = count + wrong_changed(seed, numbers, town, asked, division, total, shown);
+    count = count + wrong_moved(seed, numbers, town, asked, plan, shown);
+    count + wrong_drawn(seed, numbers, town, asked, shown)
 }

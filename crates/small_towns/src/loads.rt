@@ -5,6 +5,7 @@ use crate::entries;
 use crate::say;
 use drawn_towns::STREETS;
 use drawn_towns::Town;
+use drawn_towns::asked::Asked;
 use drawn_towns::loads::Loads;
 use plain_search::hands;
 use plain_search::loads;
@@ -18,14 +19,14 @@ pub const NUMBERS: usize = 256;
 // What the test of a plan with loads must give: the number that is right, or the total that is claimed.
 pub fn right_answer(
     town: Town,
-    balanced: bool,
+    asked: Asked,
     division: [u8; STREETS],
     claimed: u32,
     loads: Loads,
 ) -> Given
     requires { ⌜ Small town × Sized loads ⌝ }
 {
-    let x = hands::refusal(town, balanced, division, claimed, loads);
+    let x = hands::refusal(town, asked, division, claimed, loads);
     if x == 0 {
         return answers::plain(claimed, 0);
     }
@@ -54,7 +55,7 @@ pub fn wrong_loaded(
     seed: &mut u64,
     numbers: &mut [u64; NUMBERS],
     town: Town,
-    balanced: bool,
+    asked: Asked,
     division: [u8; STREETS],
     claimed: u32,
     without: Given,
@@ -64,8 +65,8 @@ pub fn wrong_loaded(
     ensures { λ r. ⌜ r ≤ 2 ⌝ }
 {
     let loads = drawn_towns::loads::draw_loads(seed, town, division);
-    let given = entries::hand(town, balanced, division, claimed, loads);
-    let right = right_answer(town, balanced, division, claimed, loads);
+    let given = entries::hand(town, asked, division, claimed, loads);
+    let right = right_answer(town, asked, division, claimed, loads);
     let x = given.refused as usize;
     numbers[x] = std::num::wrapping_add_u64(numbers[x], 1);
     let count = answers::wrong(town, given, right, shown);
@@ -73,8 +74,8 @@ pub fn wrong_loaded(
     count + answers::fails(town, kept, shown)
 }
 
-// How many plans with loads there were.
-fn all(numbers: [u64; NUMBERS]) -> u64 {
+// How many plans were counted.
+pub fn all(numbers: [u64; NUMBERS]) -> u64 {
     let mut sum: u64 = 0;
     for x in 0..NUMBERS {
         sum = std::num::wrapping_add_u64(sum, numbers[x]);

@@ -14,7 +14,9 @@ mod entries;
 mod files;
 mod free;
 mod hands;
+mod kinds;
 mod loads;
+mod plans;
 mod rows;
 mod say;
 mod sizes;
@@ -26,7 +28,7 @@ const TOWNS: u64 = 3000;
 const SHOWN: u64 = 3;
 
 // how many answers are compared for each number of sites to choose, and for each row
-const ANSWERS: u64 = 60;
+const ANSWERS: u64 = 62;
 
 const ROW_ANSWERS: u64 = 8;
 
@@ -37,28 +39,24 @@ struct Counts {
     differences: u64,
 }
 
-// How many answers to the plans of a town's k sites, and to its list, are wrong.
-fn wrong_plans(town: Town, shown: bool) -> u64
+// How many answers about the town's list, and the floor of its k sites, are wrong.
+fn wrong_lists(town: Town, shown: bool) -> u64
     requires { ⌜ Small town ⌝ }
-    ensures { λ r. ⌜ r ≤ 8 ⌝ }
+    ensures { λ r. ⌜ r ≤ 4 ⌝ }
 {
-    let mut count = free::wrong_plan(town, shown);
-    count = count + free::wrong_bound(town, shown);
-    count = count + free::wrong_division(town, shown);
+    let mut count = free::wrong_division(town, shown);
     count = count + free::wrong_total(town, shown);
-    count = count + balanced::wrong_plan(town, shown);
-    count = count + balanced::wrong_bound(town, shown);
     count = count + balanced::wrong_division(town, shown);
     count + balanced::wrong_floor(town, shown)
 }
 
-// How many answers about hand-made plans, and about damaged surveys and files of the town are wrong.
+// How many answers about plans of both kinds, and about damaged surveys and files of the town are wrong.
 fn wrong_others(seed: &mut u64, numbers: &mut [u64; NUMBERS], town: Town, shown: bool) -> u64
     requires { ⌜ Small town ⌝ }
-    ensures { λ r. ⌜ r ≤ 52 ⌝ }
+    ensures { λ r. ⌜ r ≤ 56 ⌝ }
 {
-    let mut count = hands::wrong_hands(seed, numbers, town, false, shown);
-    count = count + hands::wrong_hands(seed, numbers, town, true, shown);
+    let mut count = plans::wrong_plans(seed, numbers, town, 0, shown);
+    count = count + plans::wrong_plans(seed, numbers, town, 1, shown);
     count = count + surveys::wrong_scores(seed, town, shown);
     count = count + surveys::wrong_rows(seed, town, shown);
     count + files::wrong_files(seed, town, shown)
@@ -66,41 +64,59 @@ fn wrong_others(seed: &mut u64, numbers: &mut [u64; NUMBERS], town: Town, shown:
 
 impl Counts {
     // The counts with one number of sites to choose more.
-    fn with_choice(mut self, seed: &mut u64, numbers: &mut [u64; NUMBERS], town: Town) -> Self
+    fn with_choice(
+        mut self,
+        seed: &mut u64,
+        numbers: &mut [u64; NUMBERS],
+        kinds: &mut [u64; NUMBERS],
+        town: Town,
+    ) -> Self
         requires { ⌜ Small town × Counted (self .sizes) × (self .sizes .choices ≤ 1000000) ⌝ }
         requires { ⌜ (self .compared ≤ 2000000) × (self .differences ≤ 2000000) ⌝ }
         ensures { λ r. ⌜ Counted (r .sizes) × (r .sizes .choices ≡ self .sizes .choices + 1) ⌝ }
-        ensures counts { λ r. ⌜ (r .compared ≤ self .compared + 60) × (r .differences ≤ self .differences + 60) ⌝ }
+        ensures counts { λ r. ⌜ (r .compared ≤ self .compared + 62) × (r .differences ≤ self .differences + 62) ⌝ }
     {
         let shown = self.differences < SHOWN;
         let sizes = self.sizes;
-        self.differences = self.differences + wrong_plans(town, shown);
+        self.differences = self.differences + wrong_lists(town, shown);
         self.differences = self.differences + wrong_others(seed, numbers, town, shown);
+        self.differences = self.differences + kinds::wrong_kinds(kinds, town, sizes.choices, shown);
         self.compared = self.compared + ANSWERS;
         self.sizes = sizes.with_choice(town);
         self
     }
 
     // The counts with one town more, and every number of sites to choose.
-    fn with_town(mut self, seed: &mut u64, numbers: &mut [u64; NUMBERS], town: Town) -> Self
+    fn with_town(
+        mut self,
+        seed: &mut u64,
+        numbers: &mut [u64; NUMBERS],
+        kinds: &mut [u64; NUMBERS],
+        town: Town,
+    ) -> Self
         requires { ⌜ Small town × Counted (self .sizes) × (self .sizes .choices ≤ 100000) ⌝ }
         requires { ⌜ (self .compared ≤ 1900000) × (self .differences ≤ 1900000) ⌝ }
         ensures { λ r. ⌜ Counted (r .sizes) × (r .sizes .choices ≤ self .sizes .choices + 5) ⌝ }
-        ensures counts { λ r. ⌜ (r .compared ≤ self .compared + 364) × (r .differences ≤ self .differences + 364) ⌝ }
+        ensures counts { λ r. ⌜ (r .compared ≤ self .compared + 374) × (r .differences ≤ self .differences + 374) ⌝ }
     {
         let shown = self.differences < SHOWN;
         self.differences = self.differences + rows::wrong_rows(town, shown);
         self.compared = self.compared + ROW_ANSWERS * town.n as u64;
         let sites = town.sites;
         for i in 0..town.m {
-            self = self.with_choice(seed, numbers, drawn_towns::listing(town, sites, i + 1));
+            self = self.with_choice(
+                seed,
+                numbers,
+                kinds,
+                drawn_towns::listing(town, sites, i + 1),
+            );
         }
         self
     }
 }
 
-// All towns; the numbers of the hand plans with loads are counted.
-fn run(numbers: &mut [u64; NUMBERS]) -> Counts {
+// All towns; the numbers of the hand plans with loads and of the plans of wrong kinds are counted.
+fn run(numbers: &mut [u64; NUMBERS], kinds: &mut [u64; NUMBERS]) -> Counts {
     let mut seed: u64 = 1;
     let mut counts = Counts {
         sizes: Sizes::none(),
@@ -109,7 +125,7 @@ fn run(numbers: &mut [u64; NUMBERS]) -> Counts {
     };
     for i in 0..TOWNS {
         let town = drawn_towns::draw_town(&mut seed);
-        counts = counts.with_town(&mut seed, numbers, town);
+        counts = counts.with_town(&mut seed, numbers, kinds, town);
     }
     counts
 }
@@ -117,11 +133,13 @@ fn run(numbers: &mut [u64; NUMBERS]) -> Counts {
 // Runs all towns and prints the counts.
 fn main() {
     let mut numbers = [0u64; NUMBERS];
-    let counts = run(&mut numbers);
+    let mut kinds = [0u64; NUMBERS];
+    let counts = run(&mut numbers, &mut kinds);
     let sizes = counts.sizes;
     say::line(b"towns ", TOWNS);
     sizes.lines();
     loads::lines(numbers);
+    kinds::lines(kinds);
     say::line(b"answers compared ", counts.compared);
     say::line(b"differences ", counts.differences);
 }

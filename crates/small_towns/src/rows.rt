@@ -2,17 +2,11 @@
 use crate::answers;
 use drawn_towns::Town;
 use plain_search::scores;
-use planner::Answer;
 ghost use Prim.Native.Nat.{_+_, _≤_};
 ghost use Rattle.drawn_towns.specs.Small.{Small};
 
 // the sites from 0 on that each row is tried with
 const TRIED: usize = 7;
-
-// The score of one row and site.
-fn scored(m: usize, scores: &[u16], row: &[u8], site: u8) -> Answer {
-    planner::row_score(m, scores, row, site)
-}
 
 // What the entry must give: the score, and 17 for a site outside 1 to m.
 fn right_answer(town: Town, s: usize, site: u8) -> answers::Given
@@ -37,7 +31,7 @@ fn wrong_score(town: Town, s: usize, site: u8, shown: bool) -> u64
     let rows = town.rows;
     let from = scores::row_start(s, m);
     let to = from + m;
-    let answer = scored(m, &scores[..m], &rows[from..to], site);
+    let answer = planner::row_score(m, &scores[..m], &rows[from..to], site);
     answers::wrong(
         town,
         answers::told_alone(answer),

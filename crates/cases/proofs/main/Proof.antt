@@ -14,9 +14,6 @@ abbrev μ-loop : tie.MeasureT-loop
 loop-holds : tie.Need-loop-holds Inv-loop μ-loop
 loop-holds c = omega arith
 
-number-requires : tie.Need-number-requires Inv-loop μ-loop
-number-requires c κs = omega arith
-
 add-case : tie.Need-add-case Inv-loop μ-loop
 add-case c = omega arith
 
@@ -30,7 +27,7 @@ main-spec =
     Inv-loop
     μ-loop
     loop-holds
-    number-requires
+    (λ c κs. search needs)
     (λ c. search needs)
     (λ c. search needs)
     (λ c κs. search needs)

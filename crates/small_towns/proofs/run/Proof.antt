@@ -6,11 +6,11 @@ use Rattle.small_towns.proofs.run.Statement.{statement}
 use Rattle.small_towns.proofs.run.Tie as tie
 
 abbrev Inv-loop : tie.InvT-loop
-Inv-loop numbers₀ seed₀ counts₀ i₀ numbers seed counts i =
-    (i ≤ 3000) × Counted (counts .sizes) × (counts .sizes .choices ≤ 5 * i) × (counts .compared ≤ 364 * i) × (counts .differences ≤ 364 * i)
+Inv-loop numbers₀ kinds₀ seed₀ counts₀ i₀ numbers kinds seed counts i =
+    (i ≤ 3000) × Counted (counts .sizes) × (counts .sizes .choices ≤ 5 * i) × (counts .compared ≤ 374 * i) × (counts .differences ≤ 374 * i)
 
 abbrev μ-loop : tie.MeasureT-loop
-μ-loop numbers₀ seed₀ counts₀ i₀ numbers seed counts i = 3000 - i
+μ-loop numbers₀ kinds₀ seed₀ counts₀ i₀ numbers kinds seed counts i = 3000 - i
 
 pub run-spec : {M : Type 1} → statement M
 run-spec =

@@ -14,17 +14,17 @@ Inv-loop len count buffer₀ i₀ buffer i = (i ≤ count) × (length buffer ≡
 abbrev μ-loop : tie.MeasureT-loop
 μ-loop len count buffer₀ i₀ buffer i = count - i
 
-number-requires : tie.Need-number-requires Inv-loop μ-loop
-number-requires c κs = omega arith
+below-requires : tie.Need-below-requires Inv-loop μ-loop
+below-requires c κs = omega arith
 
-number-requires-2 : tie.Need-number-requires-2 Inv-loop μ-loop
-number-requires-2 c κs = omega arith
+below-requires-2 : tie.Need-below-requires-2 Inv-loop μ-loop
+below-requires-2 c κs = omega arith
 
 loop-holds : tie.Need-loop-holds Inv-loop μ-loop
 loop-holds c = omega arith
 
-number-requires-3 : tie.Need-number-requires-3 Inv-loop μ-loop
-number-requires-3 c κs = omega arith
+below-requires-3 : tie.Need-below-requires-3 Inv-loop μ-loop
+below-requires-3 c κs = omega arith
 
 cast-buffer : tie.Need-cast-buffer Inv-loop μ-loop
 cast-buffer c = omega arith
@@ -50,10 +50,10 @@ scores-list-spec =
     (tie.spec
     Inv-loop
     μ-loop
-    number-requires
-    number-requires-2
+    below-requires
+    below-requires-2
     loop-holds
-    number-requires-3
+    below-requires-3
     cast-buffer
     mul-buffer
     array-write-buffer

@@ -7,12 +7,12 @@ use Rattle.small_towns.proofs.Counts.with_town.Statement.{statement}
 use Rattle.small_towns.proofs.Counts.with_town.Tie as tie
 
 abbrev Inv-loop : tie.InvT-loop
-Inv-loop self₀ seed₀ numbers₀ town shown sites i₀ i-end self seed numbers i =
+Inv-loop self₀ seed₀ numbers₀ kinds₀ town shown sites i₀ i-end self seed numbers kinds i =
     (i ≤ i-end) × (i-end ≡ town .m) × Counted (self .sizes) × (self .sizes .choices ≡ self₀ .sizes .choices + i)
-    × (self .compared ≤ self₀ .compared + 60 * i) × (self .differences ≤ self₀ .differences + 60 * i)
+    × (self .compared ≤ self₀ .compared + 62 * i) × (self .differences ≤ self₀ .differences + 62 * i)
 
 abbrev μ-loop : tie.MeasureT-loop
-μ-loop self₀ seed₀ numbers₀ town shown sites i₀ i-end self seed numbers i = i-end - i
+μ-loop self₀ seed₀ numbers₀ kinds₀ town shown sites i₀ i-end self seed numbers kinds i = i-end - i
 
 pub with-town-spec : {M : Type 1} → statement M
 with-town-spec =

@@ -6,25 +6,16 @@ use native.Mathlib.Omega.{arith}
 use Rattle.small_towns.proofs.entries.list_total.Statement.{statement}
 use Rattle.small_towns.proofs.entries.list_total.Tie as tie
 
-slice-aggregate-totalled : tie.Need-slice-aggregate-totalled
-slice-aggregate-totalled c = sym (length-take-le _ _ (omega arith))
-
-slice-aggregate-totalled-2 : tie.Need-slice-aggregate-totalled-2
-slice-aggregate-totalled-2 c = sym (length-take-le _ _ (omega arith))
-
-slice-aggregate-totalled-3 : tie.Need-slice-aggregate-totalled-3
-slice-aggregate-totalled-3 c = sym (length-take-le _ _ (omega arith))
-
 pub list-total-spec : {M : Type 1} → statement M
 list-total-spec =
     tie.close
     (tie.spec
     (λ c. search needs)
-    slice-aggregate-totalled
+    (λ c. sym (length-take-le _ _ (omega arith)))
     (λ c. search needs)
-    slice-aggregate-totalled-2
+    (λ c. sym (length-take-le _ _ (omega arith)))
     (λ c. search needs)
-    slice-aggregate-totalled-3
+    (λ c. sym (length-take-le _ _ (omega arith)))
     (λ c κs. search needs)
     (λ c κs. search needs)
     (λ c. search needs))

@@ -6,9 +6,6 @@ use native.Mathlib.Omega.{arith}
 use Rattle.small_towns.proofs.rows.wrong_score.Statement.{statement}
 use Rattle.small_towns.proofs.rows.wrong_score.Tie as tie
 
-slice-aggregate-scored : tie.Need-slice-aggregate-scored
-slice-aggregate-scored c = sym (length-take-le _ _ (omega arith))
-
 pub wrong-score-spec : {M : Type 1} → statement M
 wrong-score-spec =
     tie.close
@@ -16,7 +13,7 @@ wrong-score-spec =
     (λ c κs. search needs)
     (λ c. search needs)
     (λ c. search needs)
-    slice-aggregate-scored
+    (λ c. sym (length-take-le _ _ (omega arith)))
     (λ c. search needs)
     (λ c. search needs)
     (λ c. search needs)
