@@ -104,7 +104,7 @@ fn given_refusal(town: Town, asked: Asked, loads: Loads) -> u8
     loads::numbers_refusal(town, loads)
 }
 
-// A plan with its loads. Where it is not refused for what it is asked for, it is asked for with the town's sizes.
+// A plan with its loads, asked for with the town's own sizes.
 pub fn refusal(town: Town, asked: Asked, division: [u8; STREETS], claimed: u32, loads: Loads) -> u8
     requires { ⌜ Small town × Sized loads ⌝ }
 {
