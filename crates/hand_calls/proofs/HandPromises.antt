@@ -12,7 +12,7 @@ use Rattle.plans.specs.Plans.{planTotal, sharesFor}
 use Rattle.refusals.specs.Inputs.{HandInput}
 use Rattle.refusals.specs.Refusals.{Tried, LoadNumbers, loadNumbers, noLoads, handBy, handRefusal, freeHandBy, balancedHandBy, LoadsTaken}
 use Rattle.refusals.proofs.Listed.{passed}
-use Rattle.refusals.proofs.ByKind.{hand-free, hand-balanced}
+use Rattle.refusals.proofs.ByKind.{hand-free, hand-balanced, hand-other}
 use Rattle.refusals.proofs.Passed.{hand-passed, shares-passed, loads-same}
 use Rattle.call_answers.specs.declared.Answer.{Answer}
 use Rattle.call_answers.specs.Answers.{Told, number, accepts}
@@ -53,6 +53,7 @@ module _ (i : HandInput) (r : Answer) (told : Told r (handRefusal i) (planTotal 
         outcome = outcome;
         free = λ z. outcome-as freeHandBy (λ loads. hand-free loads i z);
         balanced = λ z. outcome-as balancedHandBy (λ loads. hand-balanced loads i z);
+        other = λ l. told .right-number ∙ hand-other _ i l;
         shared = shared;
       }
 

@@ -1,8 +1,9 @@
 -- What the test of a hand-made plan promises, in one record, on every input.
 -- Assumes nothing.
-use Prim.Native.Nat.{ℕ}
+use Prim.Native.Nat.{ℕ, _<_}
 use mathlib.Core.Path.{_≡_}
 use mathlib.Core.Bool.{true}
+use Rattle.survey.specs.Refusals.{surveyRefusal}
 use Rattle.plans.specs.Plans.{planTotal}
 use Rattle.refusals.specs.Inputs.{HandInput}
 use Rattle.refusals.specs.Refusals.{LoadNumbers, loadNumbers, noLoads, LoadsTaken, handBy, freeHandBy, balancedHandBy}
@@ -24,5 +25,7 @@ pub record HandTested (i : HandInput) (r : Answer) : Type 0 where
   -- for kind 0 the outcome is that of the free plan's test, and for kind 1 that of the balanced plan's
   pub free : i .kind ≡ 0 → HandOutcome freeHandBy i r
   pub balanced : i .kind ≡ 1 → HandOutcome balancedHandBy i r
+  -- for any other kind it is refused: 4, if none of 1, 2 and 3 comes before it
+  pub other : 1 < i .kind → number r ≡ surveyRefusal (i .town) (i .k) 4
   -- a balanced plan that passes is a division in the shares of some K sites
   pub shared : i .kind ≡ 1 → accepts r ≡ true → SharedHand (i .town) (i .k) (i .division)

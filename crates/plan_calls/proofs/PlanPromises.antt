@@ -13,7 +13,7 @@ use Rattle.plans.specs.Plans.{Plan, freePlan, balancedPlan, planOfKind}
 use Rattle.refusals.specs.Inputs.{PlanInput}
 use Rattle.refusals.specs.Refusals.{Tried, planRefusal, freePlanRefusal, balancedPlanRefusal}
 use Rattle.refusals.proofs.Listed.{plan-fits}
-use Rattle.refusals.proofs.ByKind.{plan-free, plan-balanced}
+use Rattle.refusals.proofs.ByKind.{plan-free, plan-balanced, plan-other}
 use Rattle.call_answers.specs.declared.Answer.{Answer}
 use Rattle.call_answers.specs.declared.Answer.the-variants as answer
 use Rattle.call_answers.specs.Answers.{accepts, total}
@@ -38,7 +38,15 @@ module _ {i : PlanInput} {division chosen : List ℕ} {r : Answer} where
 
   -- what is given by the kind is given by its case, and good
   planned : PlanOutcome i (planRefusal i) (planOfKind (i .kind) (i .town) (i .k)) division chosen r → Planned i division chosen r
-  planned o = record { outcome = o; free = free; balanced = balanced; good-free = good-0; good-balanced = good-1 }
+  planned o =
+      record {
+        outcome = o;
+        free = free;
+        balanced = balanced;
+        other = λ l. o .answer .right-number ∙ plan-other i l;
+        good-free = good-0;
+        good-balanced = good-1;
+      }
     where
       free : i .kind ≡ 0 → PlanOutcome i (freePlanRefusal i) (freePlan (i .town) (i .k)) division chosen r
       free z = outcome-as (plan-free i z) (kind-free _ _ (i .kind) z) o

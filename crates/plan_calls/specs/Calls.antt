@@ -1,16 +1,17 @@
 -- What the call that makes a plan promises, and the floor, each in one record, on every input. A buffer holds `after REFUSAL NEW OLD`: the new bytes
 -- where the call is accepted, else what it held.
 -- Assumes nothing.
-use Prim.Native.Nat.{ℕ}
+use Prim.Native.Nat.{ℕ, _<_}
 use mathlib.Core.Path.{_≡_}
 use mathlib.Core.Bool.{true}
 use mathlib.Core.List.{List}
 use Rattle.counting.specs.Buffers.{after}
+use Rattle.survey.specs.Refusals.{surveyRefusal}
 use Rattle.plans.specs.Plans.{Plan, freePlan, balancedPlan, planOfKind, planFloor}
 use Rattle.refusals.specs.Inputs.{SurveyInput, PlanInput}
 use Rattle.refusals.specs.Refusals.{planRefusal, freePlanRefusal, balancedPlanRefusal, floorRefusal}
 use Rattle.call_answers.specs.declared.Answer.{Answer}
-use Rattle.call_answers.specs.Answers.{Told, accepts, total}
+use Rattle.call_answers.specs.Answers.{Told, number, accepts, total}
 use Rattle.plan_calls.specs.Good.{GoodFree, GoodBalanced}
 
 -- the outcome of a call by its first refusal x and the plan p that it gives where it is accepted; `division` and `chosen` are what the two buffers hold
@@ -30,6 +31,8 @@ pub record Planned (i : PlanInput) (division chosen : List ℕ) (r : Answer) : T
   -- for kind 0 the outcome is that of the free plan, and for kind 1 that of the balanced plan
   pub free : i .kind ≡ 0 → PlanOutcome i (freePlanRefusal i) (freePlan (i .town) (i .k)) division chosen r
   pub balanced : i .kind ≡ 1 → PlanOutcome i (balancedPlanRefusal i) (balancedPlan (i .town) (i .k)) division chosen r
+  -- for any other kind it is refused: 4, if none of 1, 2 and 3 comes before it
+  pub other : 1 < i .kind → number r ≡ surveyRefusal (i .town) (i .k) 4
   -- free: K different sites, the two sums, the bound over every choice of K sites, and the plan's own test
   pub good-free : i .kind ≡ 0 → accepts r ≡ true → GoodFree (i .town) (i .k) division chosen (total r)
   -- balanced: K different sites, no division in the same shares totals more, at least the floor, and the plan's own test
