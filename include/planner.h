@@ -53,7 +53,7 @@ extern "C" {
 #endif
 
 /* The year and the number of the last request that is in, 00 for the base. planner_version() gives that of the library linked. */
-#define PLANNER_VERSION 202603
+#define PLANNER_VERSION 202604
 
 /* The greatest sizes and score, and the greatest load of a street, which is also the greatest limit of a site. */
 #define PLANNER_MAX_STREETS 400
@@ -85,12 +85,12 @@ extern "C" {
 #define PLANNER_STACK_BALANCED_DIVISION 296448
 #define PLANNER_STACK_FREE_PLAN 61440
 #define PLANNER_STACK_BALANCED_PLAN 299008
-#define PLANNER_STACK_FLOOR 3072
+#define PLANNER_STACK_FLOOR 9216
 #define PLANNER_STACK_FREE_HAND_PLAN 5120
 #define PLANNER_STACK_BALANCED_HAND_PLAN 5120
 #define PLANNER_STACK_WRITE_FILE 3072
 #define PLANNER_STACK_READ_FILE 1024
-#define PLANNER_STACK_REFUSED 5632
+#define PLANNER_STACK_REFUSED 9216
 #define PLANNER_STACK_MOST PLANNER_STACK_BALANCED_PLAN
 
 /*

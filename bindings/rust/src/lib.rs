@@ -46,7 +46,7 @@
 //! Streets and sites are numbered from 1, and site 0 is no site.
 //!
 //! # Stack and threads
-//! A balanced plan needs 292 KB of stack, a free one 60 KB, and any call that refuses 6 KB, which the main thread and the threads of
+//! A balanced plan needs 292 KB of stack, a free one 60 KB, and any call that refuses 9 KB, which the main thread and the threads of
 //! [`std::thread`] have; a thread that is made with less should have half a megabyte. No call keeps anything for the next: any number of
 //! threads may call at once, and every type here can be sent to another thread and shared.
 //!
@@ -89,7 +89,7 @@ pub const ROWS_LENGTH: usize = MAX_STREETS * MAX_SITES;
 pub const FILE_LENGTH: usize = 27_739;
 
 /// The crate's version: the year, and in two digits the number of the last change request that is in.
-pub const VERSION: u32 = 202_603;
+pub const VERSION: u32 = 202_604;
 
 /// The version of the archive that is linked, which counts as [`VERSION`] does.
 ///

@@ -5,7 +5,7 @@ use mathlib.Mathlib.Data.Bool.Basic.{dichotomy}
 use mathlib.Core.Logic.{⊎-elim}
 use mathlib.Core.List.{List}
 use Prim.Native.Nat.{ℕ, _+_, _-_, _*_, _≤_, _<_, min}
-use native.Mathlib.Nat.{le-antisymm, mul-le-mul, div-le-self}
+use native.Mathlib.Nat.{le-antisymm, mul-le-mul}
 use native.Mathlib.Numerals.{add-one}
 use native.Mathlib.Omega.{arith}
 use lib.Dec.{leb}
@@ -29,10 +29,6 @@ shortest-next m rows s x y z e f g = rw (add-one s) (g ∙ ap (λ (u : ℕ). min
 -- and at the end that of all
 pub shortest-end : (n m : ℕ) (rows : List ℕ) (s x : ℕ) → n ≤ s → s ≤ n → x ≡ shortestOf s m rows → x ≡ shortestOf n m rows
 shortest-end n m rows s x a b e = rw (le-antisymm b a) at e
-
--- a quotient that is rounded up is no more than the number and the divisor together
-pub ceil-most : (a b r : ℕ) → r ≡ ceil a b → r ≤ a + b
-ceil-most a b r e = omega (arith, div-le-self (a + (b - 1)) b)
 
 module _ (score : ℕ → ℕ) (t m k i r : ℕ) (e : r ≡ ceil (m - i) (k - i)) where
   -- the place that was computed is the round's

@@ -1,5 +1,7 @@
 // The floor of the balanced plan: over the rounds, what each is sure of for the streets of its share.
+use counting::SITES;
 use survey::rows;
+ghost use mathlib.Core.Bool.{true};
 ghost use mathlib.Core.Path.{_≡_};
 ghost use Prim.Native.Nat.{_+_, _*_, _≤_, _<_, min};
 ghost use lib.ListN.{length};
@@ -8,16 +10,9 @@ ghost use Rattle.survey.specs.Town.{townOf, town};
 ghost use Rattle.survey.specs.Rows.{rowAt, rankedPart, scoreAt, shortestOf};
 ghost use Rattle.survey.specs.Accepted.{SoundScores, Accepted};
 ghost use Rattle.shares.specs.Rounds.{roundShare};
-ghost use Rattle.balanced_plan.specs.Floor.{ceil, sure, added};
+ghost use Rattle.balanced_plan.specs.Floor.{sure, added};
+ghost use Rattle.quotients.specs.Table.{isTable};
 ghost use Rattle.plans.specs.Plans.{planFloor};
-
-// A quotient, rounded up.
-fn rounded_up(a: usize, b: usize) -> usize
-    requires { ⌜ (0 < b) × (b ≤ mostSites) × (a ≤ mostSites) ⌝ }
-    ensures { λ r. ⌜ r ≡ ceil a b ⌝ }
-{
-    (a + (b - 1)) / b
-}
 
 // The lesser of two lengths.
 fn lesser(x: usize, y: usize) -> usize
@@ -49,11 +44,12 @@ fn shortest(n: usize, m: usize, rows: &[u8]) -> usize
 }
 
 // The score that the round i is sure of for each street of its share: that at its place, where every list is so long.
-fn sure(scores: &[u16], t: usize, m: usize, k: usize, i: usize) -> u16
+fn sure(table: &[[u8; SITES]; SITES], scores: &[u16], t: usize, m: usize, k: usize, i: usize) -> u16
     requires { ⌜ (i < k) × (k ≤ m) × (m ≤ mostSites) ⌝ }
+    requires { ⌜ isTable (now table) ≡ true ⌝ }
     ensures { λ r. ⌜ r ≡ sure (scoreAt (now (scores .entry))) t m k i ⌝ }
 {
-    let place = i + rounded_up(m - i, k - i);
+    let place = i + quotients::at(table, m - i, k - i) as usize;
     if t < place {
         return 0;
     }
@@ -61,13 +57,22 @@ fn sure(scores: &[u16], t: usize, m: usize, k: usize, i: usize) -> u16
 }
 
 // What the round i adds.
-fn added(scores: &[u16], t: usize, n: usize, m: usize, k: usize, i: usize) -> u32
+fn added(
+    table: &[[u8; SITES]; SITES],
+    scores: &[u16],
+    t: usize,
+    n: usize,
+    m: usize,
+    k: usize,
+    i: usize,
+) -> u32
     requires { ⌜ SoundScores (now scores) ⌝ }
     requires { ⌜ (n ≤ mostStreets) × (m ≤ mostSites) × (k ≤ m) × (i < k) ⌝ }
+    requires { ⌜ isTable (now table) ≡ true ⌝ }
     ensures { λ r. ⌜ (r ≡ added (roundShare n k) (scoreAt (now (scores .entry))) t m k i) × (r ≤ mostTotal) ⌝ }
 {
     let share = shares::of_round(n, k, i);
-    share as u32 * sure(scores, t, m, k, i) as u32
+    share as u32 * sure(table, scores, t, m, k, i) as u32
 }
 
 // The floor of k rounds: the sum of what they add.
@@ -76,9 +81,10 @@ pub fn floor(n: usize, m: usize, k: usize, scores: &[u16], rows: &[u8]) -> u32
     ensures { λ r. ⌜ r ≡ planFloor (town n m scores rows) k ⌝ }
 {
     let t = shortest(n, m, rows);
+    let table = quotients::all();
     let mut total: u32 = 0;
     for i in 0..k {
-        total = total + added(scores, t, n, m, k, i);
+        total = total + added(&table, scores, t, n, m, k, i);
     }
     total
 }

@@ -5,20 +5,6 @@ use planner::Read;
 ghost use Prim.Native.Nat.{_≤_};
 ghost use lib.ListN.{length};
 
-// The street s begins its list with the site s + 1 and goes round.
-fn fill_rows(rows: &mut [u8]) {
-    for i in 0..rows.len() {
-        rows[i] = (((i / 64 + i % 64) % 64) + 1) as u8;
-    }
-}
-
-// Falling scores from 1,000 on.
-fn fill_scores(scores: &mut [u16]) {
-    for i in 0..scores.len() {
-        scores[i] = (1000 - i % 64) as u16;
-    }
-}
-
 // 1 where two bytes differ.
 fn unlike(a: u8, b: u8) -> usize
     ensures { λ r. ⌜ r ≤ 1 ⌝ }
@@ -89,8 +75,8 @@ fn main() {
     let mut back = [0u8; 25600];
     let mut table = [0u16; 64];
     let mut again = [0u8; 27739];
-    fill_rows(&mut rows);
-    fill_scores(&mut scores);
+    full_towns::fill_rows(&mut rows, 64);
+    full_towns::fill_scores(&mut scores);
     there_and_back(&rows, &scores, &mut file, &mut back, &mut table, &mut again);
     say(b"row bytes that differ ", differences(&rows, &back) as u64);
     say(

@@ -27,24 +27,24 @@ fn shortest(town: Town) -> usize
     least
 }
 
-// The place that round i counts on: i, and how often the rounds left go into the sites left, the last time perhaps not whole.
-fn place(town: Town, i: usize) -> usize
-    requires { ⌜ Small town × (i ≤ 5) ⌝ }
+// The place that round i of k counts on, with m sites: i, and how often the rounds left go into the sites left, the last time perhaps not whole.
+pub fn place(m: usize, k: usize, i: usize) -> usize
+    requires { ⌜ (m ≤ 64) × (k ≤ 64) ⌝ }
 {
-    if town.k <= i {
+    if k <= i {
         return 0;
     }
     let mut count: usize = 0;
     let mut sites: usize = i;
-    for turn in 0..town.m {
-        count = scores::add_if(count, sites < town.m);
-        sites = sites + (town.k - i);
+    for turn in 0..m {
+        count = scores::add_if(count, sites < m);
+        sites = sites + (k - i);
     }
     i + count
 }
 
 // A score as a part of a total.
-fn wide(score: u16) -> u32
+pub fn wide(score: u16) -> u32
     ensures { λ r. ⌜ r ≤ 65535 ⌝ }
 {
     score as u32
@@ -69,7 +69,7 @@ fn added(town: Town, t: usize, i: usize) -> u32
     requires { ⌜ Small town × (t ≤ town .m) × (i ≤ 5) ⌝ }
     ensures { λ r. ⌜ r ≤ 600000 ⌝ }
 {
-    let score = score_up_to(town, place(town, i), t);
+    let score = score_up_to(town, place(town.m, town.k, i), t);
     shares::of_round(town, i) as u32 * score
 }
 

@@ -49,7 +49,7 @@ fn packed_answer(answer: Answer) -> u64
 pub extern "C" fn planner_version() -> u32
     ensures { λ r. ⌜ r ≡ version ⌝ }
 {
-    202603
+    202604
 }
 
 // Checks a survey of n streets and m sites of which k are to be chosen; its total is 0.

@@ -64,6 +64,17 @@ uneven =
     Floor ten 0 12 ∷
     []
 
+-- the places of the rounds where the quotient is rounded up and where it divides, up to the last row of the table
+abbrev pub rounding : List Line
+rounding =
+    Places 64 1 (64 ∷ []) ∷
+    Places 64 2 (32 ∷ 64 ∷ []) ∷
+    Places 64 3 (22 ∷ 33 ∷ 64 ∷ []) ∷
+    Places 63 4 (16 ∷ 22 ∷ 33 ∷ 63 ∷ []) ∷
+    Places 4 4 (1 ∷ 2 ∷ 3 ∷ 4 ∷ []) ∷
+    Places 5 4 (2 ∷ 3 ∷ 4 ∷ 5 ∷ []) ∷
+    []
+
 -- as many sites as streets, and then one more: 5 in balanced calls and nowhere else, after 3 and before 6, 17 and 20; for a list its length decides
 abbrev pub scarce : List Line
 scarce =
@@ -228,4 +239,4 @@ files =
 
 -- the whole table
 abbrev pub table : List Line
-table = worked ++ plans ++ uneven ++ scarce ++ kinds ++ scored ++ refused ++ lists ++ hand ++ unevenHand ++ loaded ++ files
+table = worked ++ plans ++ uneven ++ rounding ++ scarce ++ kinds ++ scored ++ refused ++ lists ++ hand ++ unevenHand ++ loaded ++ files

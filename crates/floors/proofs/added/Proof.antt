@@ -10,7 +10,7 @@ returns : tie.Need-returns
 returns c =
     let a = c .before .before .before .args in
     let p = c .before .before .before .pre in
-    added-is (a .scores .now) (a .n) (a .t) (a .m) (a .k) (a .i) _ _ (p .0) (p .1 .0) (c .before .of-round .ensures) (c .sure .ensures)
+    added-is (a .scores .now) (a .n) (a .t) (a .m) (a .k) (a .i) _ _ (p .0) (p .1 .0 .0) (c .before .of-round .ensures) (c .sure .ensures)
 
 mul-result : tie.Need-mul-result
 mul-result c = omega (arith, returns c .1)
