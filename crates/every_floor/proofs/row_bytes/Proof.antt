@@ -1,5 +1,4 @@
 -- `every_floor::row_bytes` meets its contract. Assumes nothing.
-use borrow.Author.Needs.{needs}
 use native.Mathlib.Nat.{mul-le-mul}
 use native.Mathlib.Omega.{arith}
 use Rattle.every_floor.proofs.row_bytes.Statement.{statement}
