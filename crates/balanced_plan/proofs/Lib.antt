@@ -4,6 +4,8 @@ pub mod Pigeonhole
 pub mod RoundShares
 pub mod Floored
 pub mod FloorShares
+pub mod CountedFloor
 pub mod Keys
 pub mod Agree
+pub mod CountedKeys
 pub mod CountedShares

@@ -1,7 +1,7 @@
 -- The rounds of the balanced plan, as document 01 has them (Monroe, Algorithm A), over any value `v street site` and any order of the
 -- streets by a key `key site street`. A round's share is a function of its number, counted from 0.
 -- Assumes nothing.
-use Prim.Native.Nat.{ℕ, zero, suc}
+use Prim.Native.Nat.{ℕ, zero, suc, _+_, _-_, _*_}
 use mathlib.Core.Bool.{Bool, cond}
 use mathlib.Core.List.{List, [], _∷_, _++_}
 use lib.Dec.{ltb, eqb}
@@ -68,3 +68,8 @@ rounds v key n m q (suc k) =
 -- the key by which document 01 orders streets for a site: the place, unranked after all m places
 abbrev pub placeKey : (ℕ → ℕ → ℕ) → ℕ → ℕ → ℕ → ℕ
 placeKey place m a s = place s a orElse suc m
+
+-- the key by which streets with household weights are ordered for a site: by counted score `v`, highest first, then by place. No value is
+-- above `most`
+abbrev pub countedKey : (ℕ → ℕ → ℕ) → (ℕ → ℕ → ℕ) → ℕ → ℕ → ℕ → ℕ → ℕ
+countedKey v place most m a s = (most - v s a) * (m + 2) + placeKey place m a s

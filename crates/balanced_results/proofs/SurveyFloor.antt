@@ -1,22 +1,25 @@
 -- The floor's theorem said of a town: its balanced plan totals no less than the floor.
 -- Assumes nothing.
 use Prim.Native.Nat.{ℕ, _≤_, _<_}
+use Rattle.counting.specs.Lists.{at}
 use Rattle.counting.specs.Sites.{Choice}
 use Rattle.survey.specs.Town.{Town}
-use Rattle.survey.specs.Rows.{rowOf, listOfStreet, streetPlace, scoreAt, value, shortest}
+use Rattle.survey.specs.Rows.{rowOf, listOfStreet, streetPlace, scoreAt, score, shortest, leastWeight}
 use Rattle.survey.specs.Accepted.{Accepted}
 use Rattle.survey.proofs.Lists.{place-among, score-later, ranked-within, ranked-apart, shortest-least}
-use Rattle.survey.proofs.Places.{valued-zero}
+use Rattle.survey.proofs.Places.{scored-zero}
+use Rattle.survey.proofs.LeastWeights.{least-low}
 use Rattle.shares.specs.Rounds.{roundShare}
 use Rattle.shares.proofs.Sums.{shares-all}
 use Rattle.balanced_plan.proofs.FloorShares.{share-crowd}
-use Rattle.balanced_plan.proofs.Floored.{Ranking, best-floor}
+use Rattle.balanced_plan.proofs.Floored.{Ranking}
+use Rattle.balanced_plan.proofs.CountedFloor.{counted-best-floor}
 use Rattle.plans.specs.Plans.{streetKey, balancedSites, balancedTotal, planFloor}
-use Rattle.balanced_results.proofs.FallingLines.{key-falls}
+use Rattle.plans.proofs.Orders.{key-falls}
 
 module _ {t : Town} (ok : Accepted t) where
   -- the streets' lists are a ranking as long as the shortest
-  ranking : Ranking (value t) (scoreAt (t .scores)) (t .n) (t .m) (shortest t) (listOfStreet t)
+  ranking : Ranking (score t) (scoreAt (t .scores)) (t .n) (t .m) (shortest t) (listOfStreet t)
   ranking =
       record {
         apart = λ s l. ranked-apart (t .m) (rowOf t s) (ok .sound-rows s l);
@@ -31,5 +34,6 @@ module _ {t : Town} (ok : Accepted t) where
   pub plan-floor : (k : ℕ) → 0 < k → k ≤ t .m → Choice (t .m) k (balancedSites t k) → planFloor t k ≤ balancedTotal t k
   plan-floor k some few sites =
       rw (sites .size)
-      (best-floor (value t) (streetKey t) (t .n) (t .m) (key-falls ok) (shortest t) (scoreAt (t .scores)) (listOfStreet t) ranking
-      (roundShare (t .n) k) k (valued-zero t) few (shares-all (t .n) k some) (share-crowd (t .n) (t .m) k few))
+      (counted-best-floor (score t) (streetKey t) (at (t .weights)) (leastWeight t) (t .n) (t .m) (shortest t) (scoreAt (t .scores)) (listOfStreet t)
+      (key-falls ok) (least-low (t .n) (t .weights)) ranking (roundShare (t .n) k) k (scored-zero t) few (shares-all (t .n) k some)
+      (share-crowd (t .n) (t .m) k few))

@@ -1,15 +1,16 @@
 -- Laws between the rows and the balanced plan: keys, lines and orders from the survey, and the rounds' division in the shares of their sites.
 -- Assumes nothing.
-use mathlib.Core.Path.{_≡_, refl, sym, ap, _∙_}
+use mathlib.Core.Path.{_≡_, sym, ap, _∙_}
 use mathlib.Core.Bool.{Bool, true, false}
 use mathlib.Core.List.{List, _++_}
 use mathlib.Core.Logic.{by-cases}
-use Prim.Native.Nat.{ℕ, _+_, _*_, _/_, _%_, _≤_, _<_}
+use Prim.Native.Nat.{ℕ, _+_, _-_, _*_, _/_, _%_, _≤_, _<_}
 use native.Mathlib.Nat.{div-add-mod', mod-lt, div-lt-iff-lt-mul, mul-zero}
 use native.Mathlib.Decide.{decLt}
 use native.Mathlib.Omega.{arith}
 use lib.ListN.{length, take, drop, length-drop}
 use lib.Seq.{getD-take, getD-drop, length-take-le}
+use Rattle.counting.specs.Bounds.{mostValue}
 use Rattle.counting.specs.Lists.{at, cell}
 use Rattle.counting.specs.Sites.{Choice}
 use Rattle.counting.proofs.Sums.{has-at}
@@ -17,9 +18,11 @@ use Rattle.counting.proofs.Equations.{along}
 use Rattle.counting.proofs.Parts.{back-is, back-room, back-size}
 use Rattle.counting.proofs.Tables.{row-within}
 use Rattle.survey.specs.Rows.{rowAt}
+use Rattle.tables.specs.RoundKeys.{rowKey, roundKey}
 use Rattle.shares.specs.Rounds.{roundShare}
 use Rattle.shares.proofs.Sums.{shares-all}
 use Rattle.division.specs.Shares.{InShares, divisionTotal, sharesOf}
+use Rattle.balanced_plan.specs.Falling.{CompareAlike}
 use Rattle.balanced_plan.specs.Rounds.{ordered, rounds}
 use Rattle.balanced_plan.specs.Rounds as plan
 use Rattle.balanced_plan.proofs.Ordered.{ordered-street}
@@ -31,7 +34,7 @@ use Rattle.division.specs.Problem.{tail}
 use Rattle.starts.specs.Given.{Shared}
 use Rattle.balanced_results.specs.Shareable.{Shareable}
 use Rattle.balanced_results.specs.Begun.{Begun, Listed, sitesOf}
-use Rattle.balanced_results.specs.Plans.{dividedBy, rowKey, roundsBy}
+use Rattle.balanced_results.specs.Plans.{dividedBy, roundsBy}
 use Rattle.balanced_results.proofs.ListShares.{as-surveyed}
 
 -- ---- lines
@@ -65,10 +68,6 @@ module _ (n m : ℕ) (list : List ℕ) (size : length list ≡ (m + 1) * n) wher
               let long : length line ≡ n = sym (ap length (o a (omega arith))) ∙ row-long a (omega arith) in
               omega (arith, here, ordered-street (key a) (λ s. true) n (at line s) (has-at line s (omega arith)) .0)
 
-  -- keys that are right in the table are right in its rows
-  keys-right : (key : ℕ → ℕ → ℕ) → ((a s : ℕ) → a ≤ m → s < n → cell list n a s ≡ key a s) → (a s : ℕ) → a ≤ m → s < n → at (rowAt n list a) s ≡ key a s
-  keys-right key h a s l u = row-cell a s u ∙ h a s l u
-
 -- ---- tables by site that are lent as a part of an array
 -- a table with a row of n entries for each of the sites 0, 1, .., m
 pub record Sized (n m : ℕ) (list : List ℕ) : Type 0 where
@@ -92,18 +91,13 @@ module _ {n m : ℕ} {list : List ℕ} (rest : List ℕ) (sized : Sized n m list
       (lines-ordered n m lent lent-size key o′, o′)
 
   -- keys in it stand in its rows
-  pub lent-keys : (key : ℕ → ℕ → ℕ) → ((a s : ℕ) → a ≤ m → s < n → cell list n a s ≡ key a s)
-      → (a s : ℕ) → a ≤ m → s < n → at (rowAt n lent a) s ≡ key a s
-  lent-keys key h =
-      keys-right n m lent lent-size key
-      (along (λ (L : List ℕ). (a s : ℕ) → a ≤ m → s < n → cell L n a s ≡ key a s) (back-is ((m + 1) * n) list rest (sized .size)) h)
+  lent-keys : (a s : ℕ) → a ≤ m → s < n → at (rowAt n lent a) s ≡ cell list n a s
+  lent-keys a s l u =
+      row-cell n m lent lent-size a s u ∙ ap (λ (L : List ℕ). cell L n a s) (back-is ((m + 1) * n) list rest (sized .size))
 
-  -- and none is above a bound that they keep
-  pub lent-few : (key : ℕ → ℕ → ℕ) (most : ℕ) → ((a s : ℕ) → a ≤ m → s < n → cell list n a s ≡ key a s) → ((a s : ℕ) → key a s ≤ most)
-      → (a s : ℕ) → a ≤ m → s < n → cell lent n a s ≤ most
-  lent-few key most h few =
-      along (λ (L : List ℕ). (a s : ℕ) → a ≤ m → s < n → cell L n a s ≤ most) (back-is ((m + 1) * n) list rest (sized .size))
-      (λ a s l u. omega (arith, h a s l u, few a s))
+  -- and compare there as they do in the table
+  pub lent-alike : (key : ℕ → ℕ → ℕ) → CompareAlike (cell list n) key n m → CompareAlike (λ a. at (rowAt n lent a)) key n m
+  lent-alike key same a s t l i j = rw (lent-keys a s l i, lent-keys a t l j) (same a s t l i j)
 
 -- ---- the rounds' sites and division
 module _ (v key : ℕ → ℕ → ℕ) (n m k : ℕ) (some : 0 < k) (few : k ≤ m) where
@@ -145,9 +139,13 @@ state-division n state end h = ap (λ (x : plan.State). x .division) h
 
 -- what a division by the table's values is, said of the town's: it goes by the values of the streets below n and the sites 1 to m
 module _ (v w : ℕ → ℕ → ℕ) (n m : ℕ) (rows : List ℕ) (same : (s a : ℕ) → s < n → a ≤ m → v s a ≡ w s a) where
+  -- the keys are the same
+  keys-same : (a s : ℕ) → a ≤ m → s < n → roundKey v m rows a s ≡ roundKey w m rows a s
+  keys-same a s l u = ap (λ (x : ℕ). (mostValue - x) * (m + 2) + rowKey m rows a s) (same s a u l)
+
   -- the rounds choose the same sites
   sites-same : (k : ℕ) → roundsBy v n m k rows .chosen ≡ roundsBy w n m k rows .chosen
-  sites-same k = ap (λ (state : plan.State). state .chosen) (rounds-agree v w (rowKey m rows) (rowKey m rows) n m (roundShare n k) same (λ a s l u. refl) k)
+  sites-same k = ap (λ (state : plan.State). state .chosen) (rounds-agree v w (roundKey v m rows) (roundKey w m rows) n m (roundShare n k) same keys-same k)
 
   own-sites : (planned : Bool) (list sites : List ℕ) → sites ≡ sitesOf planned (roundsBy v n m (length list) rows .chosen) list
       → sites ≡ sitesOf planned (roundsBy w n m (length list) rows .chosen) list
@@ -158,7 +156,7 @@ module _ (v w : ℕ → ℕ → ℕ) (n m : ℕ) (rows : List ℕ) (same : (s a 
   own-shareable : (planned : Bool) (list sites : List ℕ) → Listed planned m list
       → sites ≡ sitesOf planned (roundsBy w n m (length list) rows .chosen) list → Shareable m sites
   own-shareable true list sites ok e =
-      along (λ (S : List ℕ). Shareable m S) e (sites-shareable w (rowKey m rows) n m (length list) (ok .0) (ok .1))
+      along (λ (S : List ℕ). Shareable m S) e (sites-shareable w (roundKey w m rows) n m (length list) (ok .0) (ok .1))
   own-shareable false list sites ok e = along (λ (S : List ℕ). Shareable m S) e ok
 
   pub best-surveyed : (planned : Bool) (list : List ℕ) → Listed planned m list → (j : ℕ) → j ≡ n → (F S : List ℕ) (t : ℕ)

@@ -11,9 +11,9 @@ ghost use Rattle.balanced_results.specs.Shareable.{Shareable};
 ghost use Rattle.balanced_results.specs.Begun.{Begun, Listed, sitesOf};
 ghost use Rattle.balanced_results.specs.Plans.{roundsBy, RankedTable};
 
-// The state after the rounds, from the rows of a survey and the table of its values.
-fn play(values: &[u32], rows: &[u8], n: usize, m: usize, k: usize) -> State
-    requires { ⌜ RankedTable (now values) n m (now rows) ⌝ }
+// The state after the rounds, from the rows of a survey and the table of its values. Where all streets have the same weight, small keys do.
+fn play(values: &[u32], rows: &[u8], even: bool, n: usize, m: usize, k: usize) -> State
+    requires { ⌜ RankedTable even (now values) n m (now rows) ⌝ }
     requires { ⌜ (0 < k) × (k ≤ m) ⌝ }
     ensures held { λ r. ⌜ WellFormed r × (r .count ≡ k) ⌝ }
     ensures state { λ r. ⌜ stateOf n r ≡ roundsBy (valueIn (was values) m) n m k (was rows) ⌝ }
@@ -21,7 +21,7 @@ fn play(values: &[u32], rows: &[u8], n: usize, m: usize, k: usize) -> State
     let size = (m + 1) * n;
     let mut keys = [0u32; counting::ENTRIES];
     let mut orders = [0u16; counting::ENTRIES];
-    tables::keys::fill_keys(n, m, rows, &mut keys[..size]);
+    tables::keys::fill_for_rounds(values, even, n, m, rows, &mut keys[..size]);
     orders::fill_orders(&keys[..size], n, m, &mut orders[..size]);
     balanced_rounds::rounds(values, &orders[..size], n, m, k)
 }
@@ -30,12 +30,13 @@ fn play(values: &[u32], rows: &[u8], n: usize, m: usize, k: usize) -> State
 fn by_rounds(
     values: &[u32],
     rows: &[u8],
+    even: bool,
     m: usize,
     sites: &mut [u8],
     division: &mut [u8],
     shares: &mut [u16],
 )
-    requires { ⌜ RankedTable (now values) (length (now division)) m (now rows) ⌝ }
+    requires { ⌜ RankedTable even (now values) (length (now division)) m (now rows) ⌝ }
     requires { ⌜ (0 < length (now sites)) × (length (now sites) ≤ m) ⌝ }
     requires { ⌜ (length (now shares) ≡ m + 1) × ((a : ℕ) → at (now shares) a ≡ 0) ⌝ }
     ensures begun { λ _. ⌜ Begun (length (was division)) m (is sites) (is shares) (is division) ⌝ }
@@ -43,7 +44,7 @@ fn by_rounds(
 {
     let n = division.len();
     let k = sites.len();
-    let state = play(values, rows, n, m, k);
+    let state = play(values, rows, even, n, m, k);
     let chosen = state.chosen;
     let given = state.division;
     buffers::copy_bytes(&chosen[..k], sites);
@@ -67,13 +68,14 @@ fn over_list(values: &[u32], m: usize, sites: &[u8], division: &mut [u8], shares
 pub fn divide(
     values: &[u32],
     rows: &[u8],
+    even: bool,
     m: usize,
     planned: bool,
     sites: &mut [u8],
     division: &mut [u8],
     shares: &mut [u16],
 )
-    requires { ⌜ RankedTable (now values) (length (now division)) m (now rows) ⌝ }
+    requires { ⌜ RankedTable even (now values) (length (now division)) m (now rows) ⌝ }
     requires { ⌜ Listed planned m (now sites) ⌝ }
     requires { ⌜ (length (now shares) ≡ m + 1) × ((a : ℕ) → at (now shares) a ≡ 0) ⌝ }
     ensures begun { λ _. ⌜ Begun (length (was division)) m (is sites) (is shares) (is division) ⌝ }
@@ -81,7 +83,7 @@ pub fn divide(
         (roundsBy (valueIn (was values) m) (length (was division)) m (length (was sites)) (was rows) .chosen) (was sites) ⌝ }
 {
     if planned {
-        by_rounds(values, rows, m, sites, division, shares);
+        by_rounds(values, rows, even, m, sites, division, shares);
         return;
     }
     over_list(values, m, sites, division, shares);

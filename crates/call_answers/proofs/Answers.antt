@@ -1,12 +1,13 @@
 -- Laws of the answers, from the number x that a call's tries gave.
 -- Assumes nothing.
-use mathlib.Core.Path.{_≡_, refl, sym, _∙_}
+use mathlib.Core.Path.{_≡_, refl, sym, ap, _∙_}
 use mathlib.Core.Bool.{true}
 use mathlib.Core.List.{List}
 use Prim.Native.Nat.{ℕ, zero, suc}
 use native.Mathlib.Nat.{suc-ne-zero}
 use lib.Dec.{eqb}
 use borrow.Author.Tests.{eq-eqb, ne-eqb, eqb-true}
+use Rattle.counting.specs.Words.{_when_}
 use Rattle.counting.specs.Buffers.{after}
 use Rattle.counting.proofs.Refusals.{when-yes, when-none}
 use Rattle.refusals.specs.Refusals.{Tried}
@@ -22,6 +23,21 @@ kept-after (suc x) new old h = refl
 new-after : (x : ℕ) (new old now : List ℕ) → x ≡ 0 → now ≡ new → now ≡ after x new old
 new-after zero new old now z q = q
 new-after (suc x) new old now z q = absurd (suc-ne-zero x z)
+
+-- what a call gives by another name, which it has where nothing is refused
+pub told-same : {r : Answer} {x t u : ℕ} → (x ≡ 0 → t ≡ u) → Told r x t → Told r x u
+told-same {r} {x} {t} {u} h told =
+    record { right-number = told .right-number; right-case = told .right-case; right-total = told .right-total ∙ due x h }
+  where
+    due : (y : ℕ) → (y ≡ 0 → t ≡ u) → t when eqb y 0 ≡ u when eqb y 0
+    due zero g = ap (λ (z : ℕ). z when eqb 0 0) (g refl)
+    due (suc y) g =
+        let none : eqb (suc y) 0 ≡ _ = ne-eqb (suc y) 0 (suc-ne-zero y) in
+        sym (when-none t (eqb (suc y) 0) none) ∙ when-none u (eqb (suc y) 0) none
+
+pub after-same : (x : ℕ) (new other old : List ℕ) → (x ≡ 0 → new ≡ other) → after x new old ≡ after x other old
+after-same zero new other old h = h refl
+after-same (suc x) new other old h = refl
 
 -- an acceptance says that nothing is refused, with the total that is due and the new bytes in a lent buffer
 module _ {r : Answer} {x t : ℕ} (told : Told r x t) (y : accepts r ≡ true) where

@@ -26,6 +26,7 @@ fn loaded_hand(
     k: usize,
     kind: usize,
     scores: &[u16],
+    weights: &[u8],
     rows: &[u8],
     division: &[u8],
 ) -> Answer {
@@ -48,6 +49,7 @@ fn loaded_hand(
         k,
         kind,
         scores,
+        weights,
         rows,
         division,
         claimed as u32,
@@ -60,15 +62,18 @@ fn loaded_hand(
 
 // Commands 12, free, and 13, balanced: the streets, the sites, the chosen; the scores; the rows; the division; the claimed total. Commands 14 and 15
 // are the same with loads, and command 17 also with the kind before them.
-pub fn hand_case(kind: usize, loaded: bool) {
+pub fn hand_case(kind: usize, loaded: bool, weighed: bool) {
     let n = input::number();
     let m = input::number();
     let k = input::number();
     let s = input::scores_list();
+    let w = input::weights_of(weighed, n);
     let r = input::bytes_list();
     let d = input::bytes_list();
     let scores = s.buffer;
     let s_len = s.len;
+    let weights = w.buffer;
+    let w_len = w.len;
     let rows = r.buffer;
     let r_len = r.len;
     let division = d.buffer;
@@ -80,6 +85,7 @@ pub fn hand_case(kind: usize, loaded: bool) {
         k,
         kind,
         &scores[..s_len],
+        &weights[..w_len],
         &rows[..r_len],
         &division[..d_len],
     ));

@@ -10,8 +10,10 @@ const GAP: usize = 10000;
 // ten times what is below this is still a number
 const TENTH: usize = 1844674407370955162;
 
-// the longest lists of scores, of bytes, and of loads or limits
+// the longest lists of scores, of weights, of bytes, and of loads or limits
 const SCORES: usize = 65;
+
+const WEIGHTS: usize = 401;
 
 const BYTES: usize = 26000;
 
@@ -19,6 +21,8 @@ const LOADS: usize = 401;
 
 // what is above the length of a list, and above every total, load and limit
 const SCORES_BOUND: usize = SCORES + 1;
+
+const WEIGHTS_BOUND: usize = WEIGHTS + 1;
 
 const BYTES_BOUND: usize = BYTES + 1;
 
@@ -29,6 +33,12 @@ pub const TOTALS_BOUND: usize = 4294967296;
 // A list of scores, the first `len` of the buffer.
 pub struct Scores {
     pub buffer: [u16; SCORES],
+    pub len: usize,
+}
+
+// A list of weights, the first `len` of the buffer.
+pub struct Weights {
+    pub buffer: [u8; WEIGHTS],
     pub len: usize,
 }
 
@@ -91,6 +101,49 @@ pub fn scores_list() -> Scores
         buffer: buffer,
         len: len,
     }
+}
+
+// The next list, of weights.
+fn weights_list() -> Weights
+    ensures { λ r. ⌜ Counts (r .len) (r .buffer) ⌝ }
+{
+    let len = below(WEIGHTS_BOUND);
+    let count = below(WEIGHTS_BOUND);
+    let mut buffer = [0u8; WEIGHTS];
+    for i in 0..count {
+        buffer[i] = below(256) as u8;
+    }
+    Weights {
+        buffer: buffer,
+        len: len,
+    }
+}
+
+// The weight 1 over and over, which is not read. A longer list than fits is never looked at: then the streets are too many.
+fn ones(len: usize) -> Weights
+    ensures { λ r. ⌜ Counts (r .len) (r .buffer) ⌝ }
+{
+    let buffer = [1; WEIGHTS];
+    if WEIGHTS < len {
+        return Weights {
+            buffer: buffer,
+            len: 0,
+        };
+    }
+    Weights {
+        buffer: buffer,
+        len: len,
+    }
+}
+
+// The weights of n streets: the next list of the input, or where the case has none 1 for each street.
+pub fn weights_of(weighed: bool, n: usize) -> Weights
+    ensures { λ r. ⌜ Counts (r .len) (r .buffer) ⌝ }
+{
+    if weighed {
+        return weights_list();
+    }
+    ones(n)
 }
 
 // The next list, of bytes.

@@ -4,19 +4,29 @@ use crate::say;
 use planner::Answer;
 
 // Command 4: the streets, the sites; the scores; the rows; the list of sites.
-pub fn list_case() {
+pub fn list_case(weighed: bool) {
     let n = input::number();
     let m = input::number();
     let s = input::scores_list();
+    let w = input::weights_of(weighed, n);
     let r = input::bytes_list();
     let l = input::bytes_list();
     let scores = s.buffer;
     let s_len = s.len;
+    let weights = w.buffer;
+    let w_len = w.len;
     let rows = r.buffer;
     let r_len = r.len;
     let sites = l.buffer;
     let l_len = l.len;
-    say::answer(planner::list_total(n, m, &scores[..s_len], &rows[..r_len], &sites[..l_len]));
+    say::answer(planner::list_total(
+        n,
+        m,
+        &scores[..s_len],
+        &weights[..w_len],
+        &rows[..r_len],
+        &sites[..l_len],
+    ));
 }
 
 // A division, balanced or free.
@@ -25,14 +35,15 @@ fn division_of(
     n: usize,
     m: usize,
     scores: &[u16],
+    weights: &[u8],
     rows: &[u8],
     sites: &[u8],
     division: &mut [u8],
 ) -> Answer {
     if balanced {
-        return planner::balanced_division(n, m, scores, rows, sites, division);
+        return planner::balanced_division(n, m, scores, weights, rows, sites, division);
     }
-    planner::free_division(n, m, scores, rows, sites, division)
+    planner::free_division(n, m, scores, weights, rows, sites, division)
 }
 
 // A division, and its buffer.
@@ -41,24 +52,28 @@ fn divided(
     n: usize,
     m: usize,
     scores: &[u16],
+    weights: &[u8],
     rows: &[u8],
     sites: &[u8],
     division: &mut [u8],
 ) {
-    say::answer(division_of(balanced, n, m, scores, rows, sites, division));
+    say::answer(division_of(balanced, n, m, scores, weights, rows, sites, division));
     say::buffer(b" division", division);
 }
 
 // Commands 5, free, and 7, balanced: the streets, the sites; the scores; the rows; the list of sites; the division's buffer.
-pub fn division_case(balanced: bool) {
+pub fn division_case(balanced: bool, weighed: bool) {
     let n = input::number();
     let m = input::number();
     let s = input::scores_list();
+    let w = input::weights_of(weighed, n);
     let r = input::bytes_list();
     let l = input::bytes_list();
     let d = input::bytes_list();
     let scores = s.buffer;
     let s_len = s.len;
+    let weights = w.buffer;
+    let w_len = w.len;
     let rows = r.buffer;
     let r_len = r.len;
     let sites = l.buffer;
@@ -70,6 +85,7 @@ pub fn division_case(balanced: bool) {
         n,
         m,
         &scores[..s_len],
+        &weights[..w_len],
         &rows[..r_len],
         &sites[..l_len],
         &mut division[..d_len],
@@ -83,27 +99,31 @@ fn planned(
     k: usize,
     kind: usize,
     scores: &[u16],
+    weights: &[u8],
     rows: &[u8],
     division: &mut [u8],
     chosen: &mut [u8],
 ) {
-    say::answer(planner::plan(n, m, k, kind, scores, rows, division, chosen));
+    say::answer(planner::plan(n, m, k, kind, scores, weights, rows, division, chosen));
     say::buffer(b" division", division);
     say::buffer(b" chosen", chosen);
 }
 
 // Commands 6, free, and 8, balanced: the streets, the sites, the chosen; the scores; the rows; the buffers of the division and of the chosen
 // sites. Command 16 is the same with the kind before them.
-pub fn plan_case(kind: usize) {
+pub fn plan_case(kind: usize, weighed: bool) {
     let n = input::number();
     let m = input::number();
     let k = input::number();
     let s = input::scores_list();
+    let w = input::weights_of(weighed, n);
     let r = input::bytes_list();
     let d = input::bytes_list();
     let c = input::bytes_list();
     let scores = s.buffer;
     let s_len = s.len;
+    let weights = w.buffer;
+    let w_len = w.len;
     let rows = r.buffer;
     let r_len = r.len;
     let mut division = d.buffer;
@@ -116,6 +136,7 @@ pub fn plan_case(kind: usize) {
         k,
         kind,
         &scores[..s_len],
+        &weights[..w_len],
         &rows[..r_len],
         &mut division[..d_len],
         &mut chosen[..c_len],
@@ -123,15 +144,18 @@ pub fn plan_case(kind: usize) {
 }
 
 // Command 9: the streets, the sites, the chosen; the scores; the rows.
-pub fn floor_case() {
+pub fn floor_case(weighed: bool) {
     let n = input::number();
     let m = input::number();
     let k = input::number();
     let s = input::scores_list();
+    let w = input::weights_of(weighed, n);
     let r = input::bytes_list();
     let scores = s.buffer;
     let s_len = s.len;
+    let weights = w.buffer;
+    let w_len = w.len;
     let rows = r.buffer;
     let r_len = r.len;
-    say::answer(planner::floor(n, m, k, &scores[..s_len], &rows[..r_len]));
+    say::answer(planner::floor(n, m, k, &scores[..s_len], &weights[..w_len], &rows[..r_len]));
 }

@@ -14,9 +14,9 @@ pub struct Found {
     pub most: u32,
 }
 
-// What a site is compared by: 0 where it is taken, and 1 more than its sum where it is not.
+// What a site is compared by: 0 where it is taken, and 1 more than its sum where it is not. The sum may be a total and a bound of its rise.
 pub fn worth_or_none(sum: u32, taken: bool) -> u32
-    requires { ⌜ sum ≤ mostWorth ⌝ }
+    requires { ⌜ sum ≤ mostWorth + mostWorth ⌝ }
     ensures { λ r. ⌜ r ≡ (sum + 1) unless taken ⌝ }
 {
     if taken {

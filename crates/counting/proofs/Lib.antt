@@ -10,3 +10,4 @@ pub mod Listed
 pub mod Choices
 pub mod Equations
 pub mod Laying
+pub mod Digits

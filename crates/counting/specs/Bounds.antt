@@ -2,7 +2,7 @@
 -- Assumes nothing.
 use Prim.Native.Nat.{ℕ}
 
--- the most streets and sites of a survey, and the greatest score
+-- the most streets and sites of a survey, the greatest score, and the greatest household weight
 abbrev pub mostStreets : ℕ
 mostStreets = 400
 
@@ -11,6 +11,9 @@ mostSites = 64
 
 abbrev pub topScore : ℕ
 topScore = 1000
+
+abbrev pub topWeight : ℕ
+topWeight = 99
 
 -- the longest rows: mostStreets times mostSites bytes
 abbrev pub mostRows : ℕ

@@ -14,5 +14,7 @@ pub record Small (town : Town) : Type 0 where
   pub listed : 0 < town .k
   pub few-listed : town .k ≤ town .m
   pub scores-size : length (town .scores) ≡ 5
+  pub weights-size : length (town .weights) ≡ 9
+  pub few-weights : town .weighed ≤ 9
   pub rows-size : length (town .rows) ≡ 40
   pub sites-size : length (town .sites) ≡ 5

@@ -6,6 +6,7 @@ ghost use Rattle.drawn_towns.specs.Small.{Small};
 
 pub mod asked;
 pub mod loads;
+pub mod weights;
 
 // the most streets, sites and bytes of rows
 pub const STREETS: usize = 8;
@@ -14,17 +15,22 @@ pub const SITES: usize = 5;
 
 pub const BYTES: usize = STREETS * SITES;
 
+// a weight for each street, and one more for a buffer that is too long
+pub const WEIGHTS: usize = STREETS + 1;
+
 // the generator's numbers are below this
 const MODULUS: u64 = 2147483648;
 
-// A town of n streets and m sites. Its scores are the first m, and its rows the first `len`, n times m. Its sites are the numbers 1 to m in
-// any order; the first k of them are its list.
+// A town of n streets and m sites. Its scores are the first m, its rows the first `len`, n times m, and its weights the first `weighed`, which are n
+// except where they are to be refused. Its sites are the numbers 1 to m in any order; the first k of them are its list.
 pub struct Town {
     pub n: usize,
     pub m: usize,
     pub k: usize,
     pub len: usize,
     pub scores: [u16; SITES],
+    pub weights: [u8; WEIGHTS],
+    pub weighed: usize,
     pub rows: [u8; BYTES],
     pub sites: [u8; SITES],
 }
@@ -148,6 +154,7 @@ pub fn draw_town(seed: &mut u64) -> Town
     let scores = draw_scores(seed, m);
     let rows = draw_rows(seed, n, m);
     let sites = draw_sites(seed, m);
+    let weights = weights::draw_weights(seed, n);
     let bytes = rows.bytes;
     Town {
         n,
@@ -155,6 +162,8 @@ pub fn draw_town(seed: &mut u64) -> Town
         k: 1,
         len: rows.len,
         scores,
+        weights,
+        weighed: n,
         rows: bytes,
         sites,
     }
@@ -166,6 +175,7 @@ pub fn listing(town: Town, sites: [u8; SITES], k: usize) -> Town
     ensures { λ r. ⌜ Small r ⌝ }
 {
     let scores = town.scores;
+    let weights = town.weights;
     let rows = town.rows;
     Town {
         n: town.n,
@@ -173,6 +183,8 @@ pub fn listing(town: Town, sites: [u8; SITES], k: usize) -> Town
         k,
         len: town.len,
         scores,
+        weights,
+        weighed: town.weighed,
         rows,
         sites,
     }

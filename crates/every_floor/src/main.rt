@@ -1,6 +1,8 @@
-// The floor for every number of sites and every K: K streets with full lists, against places that are counted without dividing.
+// The floor for every number of sites and every K: K streets with full lists and falling weights, of which the last is the smallest, against places that
+// are counted without dividing.
 use libc::STDOUT_FILENO;
 use plain_search::floors;
+use plain_search::scores::wide;
 use planner::Answer;
 ghost use mathlib.Core.Path.{_≡_};
 ghost use Prim.Native.Nat.{_≤_};
@@ -21,18 +23,34 @@ fn score_at(scores: &[u16], place: usize) -> u32
     if scores.len() < place {
         return 0;
     }
-    floors::wide(scores[place - 1])
+    wide(scores[place - 1])
 }
 
-// The floor where each round has one street: the sum of the scores at the rounds' places.
+// The floor where each round has one street, and each street the weight 1: the sum of the scores at the rounds' places.
 fn expected(scores: &[u16], m: usize, k: usize) -> u32
     requires { ⌜ (k ≤ m) × (m ≤ 64) ⌝ }
+    ensures { λ r. ⌜ r ≤ 4194240 ⌝ }
 {
     let mut sum: u32 = 0;
     for i in 0..k {
         sum = sum + score_at(scores, floors::place(m, k, i));
     }
     sum
+}
+
+// The weight of the last of k streets.
+fn last_weight(k: usize) -> u32
+    requires { ⌜ k ≤ 64 ⌝ }
+    ensures { λ r. ⌜ r ≤ 100 ⌝ }
+{
+    (100 - k) as u32
+}
+
+// The floor with the weights.
+fn weighed(scores: &[u16], m: usize, k: usize) -> u32
+    requires { ⌜ (k ≤ m) × (m ≤ 64) ⌝ }
+{
+    last_weight(k) * expected(scores, m, k)
 }
 
 // 1 where an answer is this total, else 0.
@@ -57,37 +75,37 @@ fn row_bytes(m: usize, k: usize) -> usize
 }
 
 // 1 where the floor of k streets and as many rounds is right, else 0.
-fn right_floor(scores: &[u16], rows: &[u8], m: usize, k: usize) -> u64
-    requires { ⌜ (k ≤ m) × (m ≤ 64) × (length (now scores) ≡ 64) × (length (now rows) ≡ 4096) ⌝ }
+fn right_floor(scores: &[u16], weights: &[u8], rows: &[u8], m: usize, k: usize) -> u64
+    requires { ⌜ (k ≤ m) × (m ≤ 64) × (length (now scores) ≡ 64) × (length (now weights) ≡ 64) × (length (now rows) ≡ 4096) ⌝ }
     ensures { λ r. ⌜ r ≤ 1 ⌝ }
 {
     let bytes = row_bytes(m, k);
     same(
-        planner::floor(k, m, k, &scores[..m], &rows[..bytes]),
-        expected(scores, m, k),
+        planner::floor(k, m, k, &scores[..m], &weights[..k], &rows[..bytes]),
+        weighed(scores, m, k),
     )
 }
 
 // How many floors of m sites are right, over every K.
-fn right_floors(scores: &[u16], rows: &[u8], m: usize) -> u64
-    requires { ⌜ (m ≤ 64) × (length (now scores) ≡ 64) × (length (now rows) ≡ 4096) ⌝ }
+fn right_floors(scores: &[u16], weights: &[u8], rows: &[u8], m: usize) -> u64
+    requires { ⌜ (m ≤ 64) × (length (now scores) ≡ 64) × (length (now weights) ≡ 64) × (length (now rows) ≡ 4096) ⌝ }
     ensures { λ r. ⌜ r ≤ 64 ⌝ }
 {
     let mut count: u64 = 0;
     for i in 0..m {
-        count = count + right_floor(scores, rows, m, i + 1);
+        count = count + right_floor(scores, weights, rows, m, i + 1);
     }
     count
 }
 
 // How many floors are right, over every number of sites and every K.
-fn all_floors(scores: &[u16], rows: &mut [u8]) -> u64
-    requires { ⌜ (length (now scores) ≡ 64) × (length (now rows) ≡ 4096) ⌝ }
+fn all_floors(scores: &[u16], weights: &[u8], rows: &mut [u8]) -> u64
+    requires { ⌜ (length (now scores) ≡ 64) × (length (now weights) ≡ 64) × (length (now rows) ≡ 4096) ⌝ }
 {
     let mut count: u64 = 0;
     for i in 0..SITES {
         full_towns::fill_rows(rows, i + 1);
-        count = count + right_floors(scores, rows, i + 1);
+        count = count + right_floors(scores, weights, rows, i + 1);
     }
     count
 }
@@ -101,7 +119,9 @@ fn say(word: &[u8], x: u64) {
 
 fn main() {
     let mut scores = [0u16; SITES];
+    let mut weights = [0u8; SITES];
     let mut rows = [0u8; BYTES];
     full_towns::fill_scores(&mut scores);
-    say(b"right floors ", all_floors(&scores, &mut rows));
+    full_towns::fill_weights(&mut weights);
+    say(b"right floors ", all_floors(&scores, &weights, &mut rows));
 }

@@ -5,7 +5,7 @@ use mathlib.Core.Bool.{false≢true}
 use mathlib.Core.List.{List}
 use Prim.Native.Nat.{ℕ, _≤_, _<_}
 use lib.Dec.{ltb, lit<}
-use lib.ListN.{length, take}
+use lib.ListN.{length, take, replicate}
 use lib.Seq.{take-at}
 use borrow.Author.Tests.{ltb-false}
 use Rattle.counting.specs.Bounds.{mostSites, mostRows}
@@ -68,12 +68,15 @@ module _ {i : WriteInput} {x : ℕ} (tried : Tried writeRefusal i x) where
     unfolding laid
     front = take-at file _ (length file) refl
 
-    back : ReadsBack (i .town) (i .k) (i .kind) (fileWritten (i .town) (i .k) (i .kind) (i .file)) (length file)
-    back = record { short = write-short; read-back = rw front (decode-encode (i .town) (i .k) (i .kind) (both .0)) }
+    -- a town without weights is read back
+    back : i .town .weights ≡ replicate (i .town .n) 1 → ReadsBack (i .town) (i .k) (i .kind) (fileWritten (i .town) (i .k) (i .kind) (i .file)) (length file)
+    back plain = record { short = write-short; read-back = rw front (decode-encode (i .town) (i .k) (i .kind) (both .0) plain) }
 
-    pub write-given : {now : List ℕ} {r : ℕ} → r ≡ length (encode (i .town) (i .k) (i .kind)) → now ≡ fileWritten (i .town) (i .k) (i .kind) (i .file)
+    pub write-given : i .town .weights ≡ replicate (i .town .n) 1 → {now : List ℕ} {r : ℕ}
+        → r ≡ length (encode (i .town) (i .k) (i .kind)) → now ≡ fileWritten (i .town) (i .k) (i .kind) (i .file)
         → FileWritten i now (answer.Total r)
-    write-given size bytes = record { answer = told-total tried z size; bytes = new-accepted tried z _ _ bytes; back = λ y. rw (bytes, size) back }
+    write-given plain size bytes =
+        record { answer = told-total tried z size; bytes = new-accepted tried z _ _ bytes; back = λ y. rw (bytes, size) (back plain) }
 
 -- ---- reading
 module _ {i : ReadInput} {x : ℕ} (tried : Tried readRefusal i x) where

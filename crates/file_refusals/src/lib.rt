@@ -19,7 +19,7 @@ fn room_refusal(given: usize, due: usize) -> u8
     0
 }
 
-// Writing a file.
+// Writing a file. A file has no weights yet, so the survey is tried with a weight of 1 for each street.
 pub fn write_refusal(
     n: usize,
     m: usize,
@@ -31,7 +31,12 @@ pub fn write_refusal(
 ) -> u8
     ensures { λ r. ⌜ Tried writeRefusal (writeLent n m k kind scores rows file) r ⌝ }
 {
-    let r = check::survey_refusal(n, m, k, refusals::kind_refusal(kind), scores, rows);
+    if Survey::STREETS < n {
+        return 1;
+    }
+    let ones = [1u8; Survey::STREETS];
+    let own = refusals::kind_refusal(kind);
+    let r = check::survey_refusal(n, m, k, own, scores, &ones[..n], rows);
     if r != 0 {
         return r;
     }

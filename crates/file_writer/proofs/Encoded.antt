@@ -11,7 +11,7 @@ use Rattle.counting.specs.Bounds.{mostSites}
 use Rattle.counting.specs.Lists.{at}
 use Rattle.counting.specs.Buffers.{joined, Written}
 use Rattle.counting.proofs.Laying.{joined-next, written-next}
-use Rattle.survey.specs.Town.{Town, townOf}
+use Rattle.survey.specs.Town.{Town, plainTown}
 use Rattle.survey.specs.Rows.{rowAt, rankedPart}
 use Rattle.survey_file.specs.Encode.{word, townBytes, scoresBytes, listBytes, streetBytes, encode, endMark}
 use Rattle.survey_file.specs.FileBuffers.{fileWritten}
@@ -74,9 +74,9 @@ module _ {m : ℕ} {rows : List ℕ} {s size : ℕ} (h : Sized m rows s size) wh
       }
 
   -- all streets
-  pub sized-all : (n : ℕ) → n ≤ s → s ≤ n → (k kind : ℕ) (scores : List ℕ) → size ≡ length (encode (townOf n m scores rows) k kind)
+  pub sized-all : (n : ℕ) → n ≤ s → s ≤ n → (k kind : ℕ) (scores : List ℕ) → size ≡ length (encode (plainTown n m scores rows) k kind)
   sized-all n a b k kind scores =
-      omega (arith, rw (le-antisymm b a) at (h .right), records-length (townOf n m scores rows) k kind, scores-length m scores)
+      omega (arith, rw (le-antisymm b a) at (h .right), records-length (plainTown n m scores rows) k kind, scores-length m scores)
 
 -- ---- the file
 -- its records, written one behind the other, are the file

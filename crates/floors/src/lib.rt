@@ -10,7 +10,7 @@ ghost use Rattle.survey.specs.Town.{townOf, town};
 ghost use Rattle.survey.specs.Rows.{rowAt, rankedPart, scoreAt, shortestOf};
 ghost use Rattle.survey.specs.Accepted.{SoundScores, Accepted};
 ghost use Rattle.shares.specs.Rounds.{roundShare};
-ghost use Rattle.balanced_plan.specs.Floor.{sure, added};
+ghost use Rattle.balanced_plan.specs.Floor.{sure, added, floor};
 ghost use Rattle.quotients.specs.Table.{isTable};
 ghost use Rattle.plans.specs.Plans.{planFloor};
 
@@ -75,10 +75,11 @@ fn added(
     share as u32 * sure(table, scores, t, m, k, i) as u32
 }
 
-// The floor of k rounds: the sum of what they add.
-pub fn floor(n: usize, m: usize, k: usize, scores: &[u16], rows: &[u8]) -> u32
-    requires { ⌜ Accepted (townOf n m (now scores) (now rows)) × (1 ≤ k) × (k ≤ m) ⌝ }
-    ensures { λ r. ⌜ r ≡ planFloor (town n m scores rows) k ⌝ }
+// The floor of k rounds by plain scores: the sum of what they add.
+fn plain_floor(n: usize, m: usize, k: usize, scores: &[u16], rows: &[u8]) -> u32
+    requires { ⌜ (n ≤ mostStreets) × (m ≤ mostSites) × (1 ≤ k) × (k ≤ m) ⌝ }
+    requires { ⌜ SoundScores (now scores) × (length (now rows) ≡ n * m) ⌝ }
+    ensures { λ r. ⌜ (r ≡ floor (roundShare n k) (scoreAt (now (scores .entry))) (shortestOf n m (now (rows .entry))) m k) × (r ≤ mostSites * mostTotal) ⌝ }
 {
     let t = shortest(n, m, rows);
     let table = quotients::all();
@@ -87,4 +88,13 @@ pub fn floor(n: usize, m: usize, k: usize, scores: &[u16], rows: &[u8]) -> u32
         total = total + added(&table, scores, t, n, m, k, i);
     }
     total
+}
+
+// The floor of k rounds: that by plain scores, times the smallest weight.
+pub fn floor(n: usize, m: usize, k: usize, scores: &[u16], weights: &[u8], rows: &[u8]) -> u32
+    requires { ⌜ Accepted (townOf n m (now scores) (now weights) (now rows)) × (1 ≤ k) × (k ≤ m) ⌝ }
+    ensures { λ r. ⌜ r ≡ planFloor (town n m scores weights rows) k ⌝ }
+{
+    let least = survey::weights::least(weights);
+    least as u32 * plain_floor(n, m, k, scores, rows)
 }

@@ -1,7 +1,7 @@
 -- Laws of the results: what the engine's state holds, said as totals, divisions and sites of the survey.
 -- Assumes nothing.
 use mathlib.Core.Path.{_≡_, sym, ap, _∙_}
-use mathlib.Core.Bool.{Bool, false}
+use mathlib.Core.Bool.{Bool, true, false, true≢false}
 use mathlib.Core.List.{List}
 use Prim.Native.Nat.{ℕ, _*_, _≤_, _<_}
 use native.Mathlib.Omega.{arith}
@@ -14,13 +14,14 @@ use Rattle.counting.specs.Buffers.{listOf}
 use Rattle.counting.proofs.Refusals.{first-same}
 use Rattle.counting.proofs.Sums.{at-past, listOf-same, has-index}
 use Rattle.survey.specs.Town.{Town}
-use Rattle.survey.specs.Rows.{rowOf, listOfStreet, value}
+use Rattle.survey.specs.Rows.{rowOf, listOfStreet, Even, score}
 use Rattle.survey.specs.Accepted.{Accepted}
-use Rattle.survey.proofs.Places.{ranked-bound, valued-bound}
+use Rattle.survey.proofs.LeastWeights.{weight-bound}
+use Rattle.survey.proofs.Places.{ranked-bound, scored-bound}
 use Rattle.free_plan.specs.Greedy.{goesTo, chosenAt}
 use Rattle.free_plan.proofs.Valued.{AtMost}
 use Rattle.free_rounds.specs.declared.State.{State}
-use Rattle.free_rounds.specs.Held.{Held, Scores, sitesOf}
+use Rattle.free_rounds.specs.Held.{Held, Scores, Weighed, sitesOf}
 use Rattle.plans.specs.Plans.{listTotal, freeDivision}
 use Rattle.free_rounds.proofs.Rounded.{bests-small, total-is}
 
@@ -28,10 +29,22 @@ use Rattle.free_rounds.proofs.Rounded.{bests-small, total-is}
 pub at-most-list : (m : ℕ) (sites : List ℕ) → ((i : ℕ) → at sites i ≤ m) → AtMost m sites
 at-most-list m sites h a i = let (j, l, e) = has-index a sites i in rw (← e) (h j)
 
-module _ {t : Town} (ok : Accepted t) {state : State} (held : Held (value t) (t .n) state) where
-  -- the streets' bests may be summed
-  pub total-ready : (length (state .bests) ≡ mostStreets) × (t .n ≤ mostStreets) × Scores (take (t .n) (state .bests))
-  total-ready = (held .bests-size, ok .few-streets, bests-small (value t) (t .n) state held (λ s a. omega (arith, valued-bound ok s a)))
+-- the weights of an accepted survey are what the engine asks for
+pub weights-ready : {t : Town} → Accepted t → (even : Bool) → (even ≡ true → Even (t .weights)) → Weighed (t .n) (t .weights) even
+weights-ready {t} ok even equal =
+    record {
+      size = ok .weights-fit;
+      small = weight-bound (t .weights) (ok .sound-weights);
+      equal = λ e s l. equal e s (omega (arith, ok .weights-fit));
+    }
+
+module _ {t : Town} (ok : Accepted t) {state : State} (held : Held (score t) (t .n) state) where
+  -- the streets' bests may be summed by their weights
+  pub total-ready : ((length (state .bests) ≡ mostStreets) × (t .n ≤ mostStreets) × Scores (take (t .n) (state .bests))) × Weighed (t .n) (t .weights) false
+  total-ready = (
+    (held .bests-size, ok .few-streets, bests-small (score t) (t .n) state held (λ s a. omega (arith, scored-bound ok s a))),
+    weights-ready ok false (λ e. absurd (true≢false (sym e))),
+  )
 
   -- the streets may be served
   pub serve-ready : (i : ℕ) → i ≡ t .n → (length (t .rows) ≡ i * t .m) × (length (state .flags) ≡ 256)
@@ -47,8 +60,8 @@ module _ {t : Town} (ok : Accepted t) {state : State} (held : Held (value t) (t 
 
   module _ {S : List ℕ} (sites : sitesOf state ≡ S) where
     -- the sum is the total of the sites
-    pub total-found : {r : ℕ} → r ≡ sumOf (t .n) (at (take (t .n) (state .bests))) → r ≡ listTotal t S
-    total-found e = e ∙ total-is (value t) (t .n) state held ∙ ap (λ (T : List ℕ). listTotal t T) sites
+    pub total-found : {r : ℕ} → r ≡ sumOf (t .n) (λ s. at (t .weights) s * at (take (t .n) (state .bests)) s) → r ≡ listTotal t S
+    total-found e = e ∙ total-is (at (t .weights)) (score t) (t .n) state held ∙ ap (λ (T : List ℕ). listTotal t T) sites
 
     -- by the flags a street goes where it goes by the sites
     goes : (s : ℕ) → s < t .n → goesTo (λ a. getD (state .flags) a false) (listOfStreet t s) ≡ goesTo (λ a. has a S) (listOfStreet t s)

@@ -6,7 +6,7 @@ use mathlib.Core.Bool.{true, false, true≢false}
 use mathlib.Mathlib.Data.Bool.Basic.{dichotomy}
 use mathlib.Core.Logic.{⊎-elim}
 use mathlib.Core.List.{List}
-use Prim.Native.Nat.{ℕ, _+_, _≤_, _<_}
+use Prim.Native.Nat.{ℕ, _+_, _*_, _≤_, _<_}
 use native.Mathlib.Nat.{le-antisymm, eq-zero-or-pos}
 use native.Mathlib.Omega.{arith}
 use lib.ListN.{length}
@@ -14,11 +14,12 @@ use Rattle.counting.specs.Lists.{at, has}
 use Rattle.counting.proofs.Refusals.{when-zero, when-some, first-none, first-find}
 use Rattle.counting.proofs.Sums.{sumOf-same, has-at, has-index}
 use Rattle.survey.specs.Town.{Town}
-use Rattle.survey.specs.Rows.{rowOf, listOfStreet, placeIn, scoreAt, value}
+use Rattle.survey.specs.Rows.{rowOf, listOfStreet, placeIn, scoreAt, score, value}
 use Rattle.survey.specs.Accepted.{SoundScores}
 use Rattle.survey.proofs.Places.{place-none, place-at, place-first, score-none, score-next, scores-fall, ranked-sites}
 use Rattle.free_plan.specs.Greedy.{best, chosenAt, goesTo}
 use Rattle.plans.specs.Plans.{listTotal, freeDivision, planTotal}
+use Rattle.free_plan.proofs.Weighed.{best-times}
 use Rattle.free_plan.proofs.Totals.{best-has, best-le}
 use Rattle.division.proofs.Counts.{divisionTotal-sum}
 
@@ -89,4 +90,6 @@ goes-best scores L S sound sites = ⊎-elim none some (eq-zero-or-pos (goesTo (�
 pub served-total : (t : Town) (S : List ℕ) → SoundScores (t .scores) → planTotal t (freeDivision t S) ≡ listTotal t S
 served-total t S sound =
     divisionTotal-sum (value t) (t .n) (λ s. goesTo (λ a. has a S) (listOfStreet t s))
-    ∙ sumOf-same (t .n) _ _ (λ s l. goes-best (t .scores) (listOfStreet t s) S sound (ranked-sites (rowOf t s)))
+    ∙ sumOf-same (t .n) _ _ (λ s l.
+    ap (λ (x : ℕ). at (t .weights) s * x) (goes-best (t .scores) (listOfStreet t s) S sound (ranked-sites (rowOf t s)))
+    ∙ sym (best-times (at (t .weights) s) (score t s) S))

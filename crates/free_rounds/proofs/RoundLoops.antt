@@ -1,15 +1,16 @@
 -- Laws of the engine's loops, one turn each, over plain lists and numbers.
 -- Assumes nothing.
 use mathlib.Core.Path.{_≡_, sym, ap, _∙_}
+use mathlib.Core.Bool.{Bool, true}
 use mathlib.Core.Logic.{_≢_, by-cases}
 use mathlib.Core.List.{List}
 use Prim.Native.Nat.{ℕ, zero, suc, _+_, _-_, _*_, _≤_, _<_, min, max}
-use native.Mathlib.Nat.{add-zero, add-suc}
+use native.Mathlib.Nat.{add-zero, add-suc, mul-zero, mul-add, mul-le-mul, mul-le-mul-left}
 use native.Mathlib.Omega.{arith}
 use native.Mathlib.Decide.{ℕ-discrete, decLt}
 use lib.ListN.{length, set, length-set}
 use lib.Seq.{getD-set-same, getD-set-other}
-use Rattle.counting.specs.Bounds.{mostEntries, mostWidth, mostTotal}
+use Rattle.counting.specs.Bounds.{mostStreets, topScore, topWeight, mostEntries, mostWidth, mostValue, mostWorth, mostTotal}
 use Rattle.counting.specs.Words.{sumOf}
 use Rattle.counting.specs.Lists.{at}
 use Rattle.counting.proofs.Sums.{at-past, sumOf-same, sumOf-le, sumOf-even, sumOf-next}
@@ -18,12 +19,12 @@ use Rattle.counting.proofs.Parts.{part, part-length, part-at}
 use Rattle.tables.specs.Tables.{siteValue, SiteTable}
 use Rattle.tables.proofs.Filling.{table-small}
 use Rattle.choices.specs.declared.Found.{Found}
-use Rattle.free_rounds.specs.Held.{Scores, Beside, Bounded, withSite}
+use Rattle.free_rounds.specs.Held.{Scores, Weights, Weighed, Beside, Bounded, withNone, withSite}
 
 -- ---- the bounds of the sites' rises
 module _ {worth : ℕ → ℕ} {so : ℕ} {bounds : List ℕ} (h : Bounded worth so bounds) where
   -- a site's rise is its new bound
-  pub bounded-set : (a x y : ℕ) → a < mostWidth → x ≡ worth a → y ≡ so → so ≤ worth a → worth a ≤ mostTotal → Bounded worth so (set bounds a (x - y))
+  pub bounded-set : (a x y : ℕ) → a < mostWidth → x ≡ worth a → y ≡ so → so ≤ worth a → worth a ≤ mostWorth → Bounded worth so (set bounds a (x - y))
   bounded-set a x y l e q low high =
       record {
         size = length-set bounds a (x - y) ∙ h .size;
@@ -45,9 +46,34 @@ module _ {worth : ℕ → ℕ} {so : ℕ} {bounds : List ℕ} (h : Bounded worth
 pub sum-turn : (f : ℕ → ℕ) (s total x : ℕ) → total ≡ sumOf s f → x ≡ f s → total + x ≡ sumOf (s + 1) f
 sum-turn f s total x e q = ap (λ (y : ℕ). y + x) e ∙ ap (λ (y : ℕ). sumOf s f + y) q ∙ sym (sumOf-next s f)
 
--- a sum of scores is at most 1,000 for each
-sum-small : (n : ℕ) (f : ℕ → ℕ) → ((s : ℕ) → f s ≤ 1000) → sumOf n f ≤ n * 1000
-sum-small n f low = omega (arith, sumOf-le n f (λ s. 1000) (λ s l. low s), sumOf-even n 1000)
+-- a sum is at most so much for each
+sum-small : (n x : ℕ) (f : ℕ → ℕ) → ((s : ℕ) → f s ≤ x) → sumOf n f ≤ n * x
+sum-small n x f low = omega (arith, sumOf-le n f (λ s. x) (λ s l. low s), sumOf-even n x)
+
+-- so a sum of scores over the streets is not great
+pub scores-sum : {n y : ℕ} (f : ℕ → ℕ) → n ≤ mostStreets → ((s : ℕ) → f s ≤ topScore) → y ≡ sumOf n f → y ≤ mostTotal
+scores-sum {n} f few low e = omega (arith, e, sum-small n 1000 f low)
+
+-- ---- the streets' weights
+-- what a score counts is not great
+pub counted-small : {w x : ℕ} → w ≤ topWeight → x ≤ topScore → w * x ≤ mostValue
+counted-small {w} {x} l k = mul-le-mul {n₁ = w} {m₁ = x} {n₂ = 99} {m₂ = 1000} l k
+
+-- nor is what a sum of scores counts
+pub total-small : {w x : ℕ} → w ≤ topWeight → x ≤ mostTotal → w * x ≤ mostWorth
+total-small {w} {x} l k = mul-le-mul {n₁ = w} {m₁ = x} {n₂ = 99} {m₂ = 400000} l k
+
+-- a sum times a number
+sum-times : (n w : ℕ) (f : ℕ → ℕ) → w * sumOf n f ≡ sumOf n (λ s. w * f s)
+sum-times zero w f = mul-zero w
+sum-times (suc n) w f = mul-add w (sumOf n f) (f n) ∙ ap (λ (x : ℕ). x + w * f n) (sum-times n w f)
+
+-- where all streets have one weight, the sum of the scores times the first is the sum of what they count
+pub even-sum : {n : ℕ} {weights : List ℕ} {even : Bool} → Weighed n weights even → even ≡ true → (f : ℕ → ℕ) {w x : ℕ} → w ≡ at weights 0
+    → x ≡ sumOf n f → w * x ≡ sumOf n (λ s. at weights s * f s)
+even-sum {n} {weights} h set f {w} {x} e q =
+    ap (λ (y : ℕ). y * x) e ∙ ap (λ (y : ℕ). at weights 0 * y) q ∙ sum-times n (at weights 0) f
+    ∙ sumOf-same n _ _ (λ s l. ap (λ (y : ℕ). y * f s) (sym (h .equal set s l)))
 
 -- ---- a sum by parts
 -- scores stay scores in a part
@@ -82,7 +108,7 @@ module _ {bests row : List ℕ} (b : Beside bests row) (from : ℕ) {to : ℕ} (
   pub part-turn : {total x : ℕ} → from < length bests → total ≡ sumOf from (λ s. max (at bests s) (at row s))
       → x ≡ sumOf (length (part from to bests)) (λ s. max (at (part from to bests) s) (at (part from to row) s))
       → (total + x ≡ sumOf to (λ s. max (at bests s) (at row s))) × (total + x ≤ mostTotal)
-  part-turn {total} {x} l h q = (sum, omega (arith, sum, sum-small to f (λ s. omega (arith, b .small-bests s, b .small s)), b .few))
+  part-turn {total} {x} l h q = (sum, omega (arith, sum, sum-small to 1000 f (λ s. omega (arith, b .small-bests s, b .small s)), b .few))
     where
       f : ℕ → ℕ
       f s = max (at bests s) (at row s)
@@ -118,23 +144,30 @@ module _ {n m : ℕ} {values : List ℕ} (t : SiteTable n m values) {a : ℕ} (l
   row-small : Scores (part (a * n) (a * n + n) values)
   row-small = part-small (a * n) (a * n + n) values (row-ends .0) (t .small)
 
-module _ {m : ℕ} {values : List ℕ} (bests : List ℕ) (t : SiteTable (length bests) m values) where
-  module _ {a : ℕ} (l : a ≤ m) where
-    -- the part of the table that is lent for a site stands beside the bests
-    pub row-beside : Scores bests → Beside bests (part (a * length bests) (a * length bests + length bests) values)
-    row-beside low = record { size = row-length t l; few = t .few-streets; small-bests = low; small = row-small t l }
+-- the part of the table that is lent for a site stands beside the bests
+pub row-beside : {m a : ℕ} {values : List ℕ} (bests : List ℕ) → SiteTable (length bests) m values → a ≤ m → Scores bests
+    → Beside bests (part (a * length bests) (a * length bests + length bests) values)
+row-beside bests t l low = record { size = row-length t l; few = t .few-streets; small-bests = low; small = row-small t l }
 
-    -- and what is summed over it is the total with the site
-    pub row-sum : {r : ℕ} → r ≡ sumOf (length bests) (λ s. max (at bests s) (at (part (a * length bests) (a * length bests + length bests) values) s))
-        → r ≡ withSite values bests a
-    row-sum e = e ∙ sumOf-same (length bests) _ _ (λ s k. ap (λ (x : ℕ). max (at bests s) x) (row-at t l s k))
+module _ {m : ℕ} {values : List ℕ} (weights bests : List ℕ) (t : SiteTable (length bests) m values) where
+  -- what is summed over it by the weights is the total with the site
+  pub row-sum : {a r : ℕ} → a ≤ m
+      → r ≡ sumOf (length bests) (λ s. at weights s * max (at bests s) (at (part (a * length bests) (a * length bests + length bests) values) s))
+      → r ≡ withSite weights values bests a
+  row-sum l e = e ∙ sumOf-same (length bests) _ _ (λ s k. ap (λ (x : ℕ). at weights s * max (at bests s) x) (row-at t l s k))
 
   -- the total without a site is no greater than that with it, which is at most 400 times the greatest value
-  pub with-range : Scores bests → (a : ℕ) → (sumOf (length bests) (at bests) ≤ withSite values bests a) × (withSite values bests a ≤ mostTotal)
-  with-range low a =
-      let n : ℕ = length bests in (
-        sumOf-le n (at bests) _ (λ s l. omega arith),
-        omega (arith, sum-small n (λ s. max (at bests s) (siteValue values n s a)) (λ s. omega (arith, low s, t .small (a * n + s))), t .few-streets),
+  pub with-range : Weights weights → Scores bests → (a : ℕ)
+      → (withNone weights bests ≤ withSite weights values bests a) × (withSite weights values bests a ≤ mostWorth)
+  with-range light low a =
+      let n : ℕ = length bests in
+      let better : (s : ℕ) → max (at bests s) (siteValue values n s a) ≤ topScore = λ s. omega (arith, low s, t .small (a * n + s)) in (
+        sumOf-le n _ _ (λ s l. mul-le-mul-left {m = at bests s} {n = max (at bests s) (siteValue values n s a)} (at weights s) (omega arith)),
+        omega (
+          arith,
+          sum-small n mostValue (λ s. at weights s * max (at bests s) (siteValue values n s a)) (λ s. counted-small (light s) (better s)),
+          t .few-streets,
+        ),
       )
 
 -- what holds of the bounds and the best so far in either case of a turn holds after it

@@ -3,14 +3,14 @@
 use mathlib.Core.Path.{_≡_, refl, sym, ap, _∙_}
 use mathlib.Core.Bool.{Bool, true, not, _&&_}
 use mathlib.Core.List.{List, [], _∷_, _++_}
-use Prim.Native.Nat.{ℕ, _+_, _≤_, _<_, max}
+use Prim.Native.Nat.{ℕ, _+_, _*_, _≤_, _<_, max}
 use native.Mathlib.Numerals.{add-one}
 use native.Mathlib.Omega.{arith}
 use native.Mathlib.Decide.{decLt}
 use lib.Dec.{ltb}
 use lib.ListN.{length, take, drop, set, length-set, length-take, length-append, length-drop, length-replicate, getD-replicate, List·getD-append, replicate}
 use lib.Seq.{take-suc-set, getD-take, length-take-le}
-use Rattle.counting.specs.Bounds.{mostStreets, mostSites}
+use Rattle.counting.specs.Bounds.{mostStreets, mostSites, mostValue}
 use Rattle.counting.specs.Words.{sumOf}
 use Rattle.counting.specs.Lists.{at}
 use Rattle.counting.specs.Greatest.{greatest, unchosen}
@@ -21,10 +21,11 @@ use Rattle.counting.proofs.Sums.{sumOf-same, at-past}
 use Rattle.tables.specs.Tables.{siteValue}
 use Rattle.free_plan.specs.Greedy.{best, total, totalWith, pick}
 use Rattle.free_plan.proofs.Totals.{best-append, best-le, total-step, total-bound}
+use Rattle.free_plan.proofs.Weighed.{best-with, total-times, total-with-times}
 use Rattle.free_rounds.proofs.RoundLoops.{bounded-same}
 use Rattle.free_rounds.specs.declared.State.{State}
 use Rattle.choices.specs.Scan.{unflagged}
-use Rattle.free_rounds.specs.Held.{Held, Bounded, Bounds, Scores, sitesOf, emptyState, withSite}
+use Rattle.free_rounds.specs.Held.{Held, Bounded, Bounds, Scores, counted, sitesOf, emptyState, withNone, withSite}
 
 -- the empty state holds nothing
 pub held-none : (v : ℕ → ℕ → ℕ) (n : ℕ) → Held v n emptyState
@@ -41,21 +42,21 @@ held-none v n =
     nought s (no l) = at-past (replicate 400 0) s (rw length-replicate (omega arith))
 
 -- no site raises the total of none by more than 400 times the greatest value
-bounds-none : (v : ℕ → ℕ → ℕ) (n : ℕ) → n ≤ 400 → ((s a : ℕ) → v s a ≤ 1000) → Bounds v n emptyState
+bounds-none : (v : ℕ → ℕ → ℕ) (n : ℕ) → n ≤ 400 → ((s a : ℕ) → v s a ≤ mostValue) → Bounds v n emptyState
 bounds-none v n few low =
     record {
-      size = length-replicate {A = ℕ} 65 400000;
-      right = λ a l. omega (arith, getD-replicate {A = ℕ} 65 a 400000 0 l, total-bound v n (a ∷ []) 1000 (λ s k b. low s b));
+      size = length-replicate {A = ℕ} 65 39600000;
+      right = λ a l. omega (arith, getD-replicate {A = ℕ} 65 a 39600000 0 l, total-bound v n (a ∷ []) 99000 (λ s k b. low s b));
       small = λ a. small a (decLt a 65);
     }
   where
-    small : (a : ℕ) → Dec (a < 65) → at (replicate 65 400000) a ≤ 400000
-    small a (yes l) = omega (arith, getD-replicate {A = ℕ} 65 a 400000 0 l)
-    small a (no l) = omega (arith, at-past (replicate 65 400000) a (rw length-replicate (omega arith)))
+    small : (a : ℕ) → Dec (a < 65) → at (replicate 65 39600000) a ≤ 39600000
+    small a (yes l) = omega (arith, getD-replicate {A = ℕ} 65 a 39600000 0 l)
+    small a (no l) = omega (arith, at-past (replicate 65 39600000) a (rw length-replicate (omega arith)))
 
-pub start-holds : (v : ℕ → ℕ → ℕ) (n : ℕ) (state : State) → n ≤ 400 → ((s a : ℕ) → v s a ≤ 1000) → state ≡ emptyState
-    → (state .count ≡ 0) × (sitesOf state ≡ []) × Held v n state × Bounds v n state
-start-holds v n state few low e = rw e (refl, refl, held-none v n, bounds-none v n few low)
+pub start-holds : (v : ℕ → ℕ → ℕ) (n : ℕ) (state : State) → n ≤ 400 → state ≡ emptyState
+    → (state .count ≡ 0) × (sitesOf state ≡ []) × Held v n state × ((c : ℕ → ℕ → ℕ) → ((s a : ℕ) → c s a ≤ mostValue) → Bounds c n state)
+start-holds v n state few e = rw e (refl, refl, held-none v n, λ c low. bounds-none c n few low)
 
 -- the state with one site more
 abbrev pub stateWith : State → ℕ → List ℕ → State
@@ -67,10 +68,6 @@ stateWith state site bests =
       bests = bests;
       bounds = state .bounds;
     }
-
--- the better of what the chosen sites give a street and what one site more does
-best-with : (f : ℕ → ℕ) (S : List ℕ) (a : ℕ) → max (best f S) (f a) ≡ best f (S ++ (a ∷ []))
-best-with f S a = sym (best-append f S (a ∷ []) ∙ omega arith)
 
 module _ {v : ℕ → ℕ → ℕ} {n : ℕ} {state : State} (h : Held v n state) (l : state .count < mostSites) (site : ℕ) where
   pub sites-more : take (state .count + 1) (set (state .chosen) (state .count) site) ≡ sitesOf state ++ (site ∷ [])
@@ -106,12 +103,12 @@ rise-falls v n S a b =
       sumOf-same n (λ s. best (v s) (S ++ (a ∷ b ∷ []))) (λ s. best (v s) ((S ++ (b ∷ [])) ++ (a ∷ []))) (λ s l. swapped (v s) S a b),
     )
 
--- so the bounds stay bounds
+-- so the bounds stay bounds, whatever counts for a street
 pub bounds-more : {v : ℕ → ℕ → ℕ} {n : ℕ} {state : State} → Held v n state → state .count < mostSites → (site : ℕ)
-    → Bounds v n state → Bounds v n (stateWith state site (state .bests))
-bounds-more {v} {n} {state} h l site b =
+    → (c : ℕ → ℕ → ℕ) → Bounds c n state → Bounds c n (stateWith state site (state .bests))
+bounds-more {v} {n} {state} h l site c b =
     rw (sites-more h l site)
-    (record { size = b .size; right = λ a k. omega (arith, b .right a k, rise-falls v n (sitesOf state) a site); small = b .small })
+    (record { size = b .size; right = λ a k. omega (arith, b .right a k, rise-falls c n (sitesOf state) a site); small = b .small })
 
 -- the state with other bounds
 abbrev pub stateBounds : State → List ℕ → State
@@ -130,38 +127,42 @@ bests-small v n state h low s = go (decLt s n)
     go (yes l) = rw (getD-take n (state .bests) s 0 l, h .bests s l) (best-le (v s) 1000 (sitesOf state) (λ a i. low s a))
     go (no l) = rw (at-past (take n (state .bests)) s (omega (arith, length-take n (state .bests)))) (omega arith)
 
--- the sum of the better of best and value is the total with the site
-with-is : (values : List ℕ) (n : ℕ) (state : State) → Held (siteValue values n) n state → n ≤ 400 → (a : ℕ)
-    → withSite values (take n (state .bests)) a ≡ totalWith (siteValue values n) n (sitesOf state) a
-with-is values n state h low a =
-    let whole : length (take n (state .bests)) ≡ n = length-take-le n (state .bests) (omega (arith, h .bests-size)) in
-    ap (λ (k : ℕ). sumOf k (λ s. max (at (take n (state .bests)) s) (siteValue values k s a))) whole
-    ∙ sumOf-same n _ _
-    (λ s ls.
-    ap (λ (x : ℕ). max x (siteValue values n s a)) (getD-take n (state .bests) s 0 ls ∙ h .bests s ls) ∙ best-with (siteValue values n s) (sitesOf state) a)
+-- the sum of what the bests count is the total of the sites
+pub total-is : (w : ℕ → ℕ) (v : ℕ → ℕ → ℕ) (n : ℕ) (state : State) → Held v n state
+    → sumOf n (λ s. w s * at (take n (state .bests)) s) ≡ total (λ s a. w s * v s a) n (sitesOf state)
+total-is w v n state h =
+    sumOf-same n _ _ (λ s l. ap (λ (x : ℕ). w s * x) (getD-take n (state .bests) s 0 l ∙ h .bests s l)) ∙ sym (total-times w v n (sitesOf state))
 
--- the site of greatest sum among those not flagged is the round's choice
-pub choice-is : (values : List ℕ) {n : ℕ} (m : ℕ) {state : State} → Held (siteValue values n) n state → n ≤ mostStreets → m ≤ mostSites
-    → greatest (unflagged (state .flags)) (withSite values (take n (state .bests))) m ≡ pick (siteValue values n) n m (sitesOf state)
-choice-is values {n} m {state} h low few =
-    greatest-same (unflagged (state .flags)) (unchosen (sitesOf state)) _ (totalWith (siteValue values n) n (sitesOf state)) m
-    (λ a l. ap (λ (t : Bool). ltb 0 a && not t) (h .flags .right a (omega arith))) (λ a l y. with-is values n state h low a)
+module _ (weights values : List ℕ) {n : ℕ} {state : State} (h : Held (siteValue values n) n state) (low : n ≤ mostStreets) where
+  -- the bests that are lent are as many as the town has streets
+  whole : length (take n (state .bests)) ≡ n
+  whole = length-take-le n (state .bests) (omega (arith, h .bests-size))
 
--- the sum of the bests is the total of the sites
-pub total-is : (v : ℕ → ℕ → ℕ) (n : ℕ) (state : State) → Held v n state → sumOf n (at (take n (state .bests))) ≡ total v n (sitesOf state)
-total-is v n state h = sumOf-same n _ _ (λ s l. getD-take n (state .bests) s 0 l ∙ h .bests s l)
+  -- the sum of what the better of best and value counts is the total with the site
+  with-is : (a : ℕ) → withSite weights values (take n (state .bests)) a ≡ totalWith (counted weights values n) n (sitesOf state) a
+  with-is a =
+      ap (λ (k : ℕ). sumOf k (λ s. at weights s * max (at (take n (state .bests)) s) (siteValue values k s a))) whole
+      ∙ sumOf-same n _ _
+      (λ s l. ap (λ (x : ℕ). at weights s * max x (siteValue values n s a)) (getD-take n (state .bests) s 0 l ∙ h .bests s l))
+      ∙ sym (total-with-times (at weights) (siteValue values n) n (sitesOf state) a)
 
--- the state's bounds as bounds of the sums of its bests, and back
-module _ (values : List ℕ) {n : ℕ} {state : State} (h : Held (siteValue values n) n state) (low : n ≤ mostStreets) (bounds : List ℕ) where
-  so-is : sumOf (length (take n (state .bests))) (at (take n (state .bests))) ≡ total (siteValue values n) n (sitesOf state)
-  so-is =
-      ap (λ (k : ℕ). sumOf k (at (take n (state .bests)))) (length-take-le n (state .bests) (omega (arith, h .bests-size)))
-      ∙ total-is (siteValue values n) n state h
+  -- the site of greatest sum among those not flagged is the round's choice
+  pub choice-is : (m : ℕ) → m ≤ mostSites
+      → greatest (unflagged (state .flags)) (withSite weights values (take n (state .bests))) m ≡ pick (counted weights values n) n m (sitesOf state)
+  choice-is m few =
+      greatest-same (unflagged (state .flags)) (unchosen (sitesOf state)) _ (totalWith (counted weights values n) n (sitesOf state)) m
+      (λ a l. ap (λ (t : Bool). ltb 0 a && not t) (h .flags .right a (omega arith))) (λ a l y. with-is a)
 
-  pub bounds-out : Bounded (totalWith (siteValue values n) n (sitesOf state)) (total (siteValue values n) n (sitesOf state)) bounds
-      → Bounded (withSite values (take n (state .bests))) (sumOf (length (take n (state .bests))) (at (take n (state .bests)))) bounds
-  bounds-out b = bounded-same b (λ a. sym (with-is values n state h low a)) (sym so-is)
+  -- the state's bounds as bounds of the sums of its bests, and back
+  none-is : withNone weights (take n (state .bests)) ≡ total (counted weights values n) n (sitesOf state)
+  none-is =
+      ap (λ (k : ℕ). sumOf k (λ s. at weights s * at (take n (state .bests)) s)) whole ∙ total-is (at weights) (siteValue values n) n state h
 
-  pub bounds-back : Bounded (withSite values (take n (state .bests))) (sumOf (length (take n (state .bests))) (at (take n (state .bests)))) bounds
-      → Bounded (totalWith (siteValue values n) n (sitesOf state)) (total (siteValue values n) n (sitesOf state)) bounds
-  bounds-back b = bounded-same b (λ a. with-is values n state h low a) so-is
+  module _ (bounds : List ℕ) where
+    pub bounds-out : Bounded (totalWith (counted weights values n) n (sitesOf state)) (total (counted weights values n) n (sitesOf state)) bounds
+        → Bounded (withSite weights values (take n (state .bests))) (withNone weights (take n (state .bests))) bounds
+    bounds-out b = bounded-same b (λ a. sym (with-is a)) (sym none-is)
+
+    pub bounds-back : Bounded (withSite weights values (take n (state .bests))) (withNone weights (take n (state .bests))) bounds
+        → Bounded (totalWith (counted weights values n) n (sitesOf state)) (total (counted weights values n) n (sitesOf state)) bounds
+    bounds-back b = bounded-same b with-is none-is

@@ -1,14 +1,15 @@
-// The free plan's engine: a state that holds the sites chosen so far and each street's best score, passed by value from round to round. It is
+// The free plan's engine: a state that holds the sites chosen so far and each street's best score, passed by value from round to round. The
+// bests are plain scores, and the streets' weights come in where they are summed: a weight times the best is the best of what counts. It is
 // the lazy greedy algorithm: a site's rise never grows, so the rise that was found last bounds it, and most sites need no new sum.
 ghost use mathlib.Core.Path.{_≡_};
 ghost use mathlib.Core.List.{_∷_, [], _++_};
 ghost use Prim.Native.Nat.{ℕ, _+_, _≤_, _<_};
 ghost use lib.ListN.{length};
-ghost use Rattle.counting.specs.Bounds.{mostSites};
+ghost use Rattle.counting.specs.Bounds.{mostSites, mostValue};
 ghost use Rattle.counting.specs.Lists.{at};
 ghost use Rattle.tables.specs.Tables.{siteValue, SiteTable};
 ghost use Rattle.free_plan.specs.Greedy.{pick, greedy};
-ghost use Rattle.free_rounds.specs.Held.{Held, Bounds, sitesOf, emptyState};
+ghost use Rattle.free_rounds.specs.Held.{Held, Bounds, Weighed, counted, sitesOf, emptyState};
 
 pub mod pick;
 pub mod sums;
@@ -33,17 +34,17 @@ impl State {
             count: 0,
             flags: [false; 256],
             bests: [0u16; counting::STREETS],
-            bounds: [400000u32; counting::WIDTH],
+            bounds: [39600000u32; counting::WIDTH],
         }
     }
 
-    // The state with one site more.
+    // The state with one site more. Its bounds stay bounds whatever counts for a street, since no rise grows.
     pub fn taking(mut self, values: &[u16], n: usize, m: usize, site: u8) -> Self
-        requires { ⌜ SiteTable n m (now values) ⌝ }
-        requires { ⌜ Held (siteValue (now values) n) n self × Bounds (siteValue (now values) n) n self ⌝ }
+        requires { ⌜ SiteTable n m (now values) × Held (siteValue (now values) n) n self ⌝ }
         requires { ⌜ (site ≤ m) × (self .count < mostSites) ⌝ }
         ensures sites { λ r. ⌜ (r .count ≡ self .count + 1) × (sitesOf r ≡ sitesOf self ++ (site ∷ [])) ⌝ }
-        ensures held { λ r. ⌜ Held (siteValue (now (values .entry)) n) n r × Bounds (siteValue (now (values .entry)) n) n r ⌝ }
+        ensures held { λ r. ⌜ Held (siteValue (now (values .entry)) n) n r ⌝ }
+        ensures bounds { λ r. ⌜ ((v : ℕ → ℕ → ℕ) → Bounds v n self → Bounds v n r) ⌝ }
     {
         let at = self.count;
         let flag = site as usize;
@@ -59,18 +60,18 @@ impl State {
     }
 
     // One round: the site that raises the total most is added.
-    pub fn round(mut self, values: &[u16], n: usize, m: usize) -> Self
-        requires { ⌜ SiteTable n m (now values) ⌝ }
-        requires { ⌜ Held (siteValue (now values) n) n self × Bounds (siteValue (now values) n) n self ⌝ }
+    pub fn round(mut self, values: &[u16], weights: &[u8], even: bool, n: usize, m: usize) -> Self
+        requires { ⌜ SiteTable n m (now values) × Weighed n (now weights) even ⌝ }
+        requires { ⌜ Held (siteValue (now values) n) n self × Bounds (counted (now weights) (now values) n) n self ⌝ }
         requires { ⌜ self .count < m ⌝ }
         ensures sites { λ r. ⌜ (r .count ≡ self .count + 1)
-            × (sitesOf r ≡ sitesOf self ++ (pick (siteValue (now (values .entry)) n) n m (sitesOf self) ∷ [])) ⌝ }
-        ensures held { λ r. ⌜ Held (siteValue (now (values .entry)) n) n r × Bounds (siteValue (now (values .entry)) n) n r ⌝ }
+            × (sitesOf r ≡ sitesOf self ++ (pick (counted (now (weights .entry)) (now (values .entry)) n) n m (sitesOf self) ∷ [])) ⌝ }
+        ensures held { λ r. ⌜ Held (siteValue (now (values .entry)) n) n r × Bounds (counted (now (weights .entry)) (now (values .entry)) n) n r ⌝ }
     {
         let bests = self.bests;
         let flags = self.flags;
         let mut bounds = self.bounds;
-        let site = pick::choose(values, &bests[..n], m, &flags, &mut bounds);
+        let site = pick::choose(values, weights, even, &bests[..n], m, &flags, &mut bounds);
         self.bounds = bounds;
         self = self.taking(values, n, m, site as u8);
         self
@@ -82,7 +83,8 @@ fn taken(values: &[u16], n: usize, m: usize, sites: &[u8]) -> State
     requires { ⌜ SiteTable n m (now values) ⌝ }
     requires { ⌜ (length (now sites) ≤ mostSites) × ((i : ℕ) → at (now sites) i ≤ m) ⌝ }
     ensures sites { λ r. ⌜ (r .count ≡ length (now (sites .entry))) × (sitesOf r ≡ now (sites .entry)) ⌝ }
-    ensures held { λ r. ⌜ Held (siteValue (now (values .entry)) n) n r × Bounds (siteValue (now (values .entry)) n) n r ⌝ }
+    ensures held { λ r. ⌜ Held (siteValue (now (values .entry)) n) n r ⌝ }
+    ensures bounds { λ r. ⌜ ((v : ℕ → ℕ → ℕ) → ((s a : ℕ) → v s a ≤ mostValue) → Bounds v n r) ⌝ }
 {
     let mut state = State::empty();
     for i in 0..sites.len() {
@@ -92,16 +94,24 @@ fn taken(values: &[u16], n: usize, m: usize, sites: &[u8]) -> State
 }
 
 // The state after k rounds from a given list of sites.
-pub fn rounds(values: &[u16], n: usize, m: usize, sites: &[u8], k: usize) -> State
-    requires { ⌜ SiteTable n m (now values) ⌝ }
+pub fn rounds(
+    values: &[u16],
+    weights: &[u8],
+    even: bool,
+    n: usize,
+    m: usize,
+    sites: &[u8],
+    k: usize,
+) -> State
+    requires { ⌜ SiteTable n m (now values) × Weighed n (now weights) even ⌝ }
     requires { ⌜ (length (now sites) + k ≤ m) × ((i : ℕ) → at (now sites) i ≤ m) ⌝ }
     ensures sites { λ r. ⌜ (r .count ≡ length (now (sites .entry)) + k)
-        × (sitesOf r ≡ greedy (siteValue (now (values .entry)) n) n m k (now (sites .entry))) ⌝ }
+        × (sitesOf r ≡ greedy (counted (now (weights .entry)) (now (values .entry)) n) n m k (now (sites .entry))) ⌝ }
     ensures held { λ r. ⌜ Held (siteValue (now (values .entry)) n) n r ⌝ }
 {
     let mut state = taken(values, n, m, sites);
     for i in 0..k {
-        state = state.round(values, n, m);
+        state = state.round(values, weights, even, n, m);
     }
     state
 }

@@ -1,12 +1,13 @@
 // Sums over the streets. A site's values stand side by side, so that each sum runs over neighbours and stores nothing on its way.
+// Where all streets have one weight, the plain scores are summed and the sum is multiplied once, which is faster.
 ghost use mathlib.Core.Path.{_≡_};
-ghost use Prim.Native.Nat.{_+_, _≤_, min, max};
+ghost use Prim.Native.Nat.{_+_, _*_, _≤_, min, max};
 ghost use lib.ListN.{length};
-ghost use Rattle.counting.specs.Bounds.{mostStreets};
+ghost use Rattle.counting.specs.Bounds.{mostStreets, topScore, topWeight, mostValue};
 ghost use Rattle.counting.specs.Words.{sumOf};
 ghost use Rattle.counting.specs.Lists.{at};
 ghost use Rattle.counting.specs.Buffers.{Mapped};
-ghost use Rattle.free_rounds.specs.Held.{Scores, Beside};
+ghost use Rattle.free_rounds.specs.Held.{Scores, Beside, Weights, Weighed};
 
 // The greater of two.
 fn greater(x: u16, y: u16) -> u16
@@ -20,6 +21,26 @@ fn wide(x: u16) -> u32
     ensures { λ r. ⌜ r ≡ x ⌝ }
 {
     x as u32
+}
+
+// A score times the street's weight: what it counts.
+fn times(weight: u8, score: u16) -> u32
+    requires { ⌜ (weight ≤ topWeight) × (score ≤ topScore) ⌝ }
+    ensures product { λ r. ⌜ r ≡ weight * score ⌝ }
+    ensures small { λ r. ⌜ r ≤ mostValue ⌝ }
+{
+    weight as u32 * score as u32
+}
+
+// The first street's weight, which is every street's where the weights are equal; 0 where there is no street.
+fn first(weights: &[u8]) -> u32
+    requires { ⌜ Weights (now weights) ⌝ }
+    ensures { λ r. ⌜ r ≡ at (now (weights .entry)) 0 ⌝ }
+{
+    if weights.len() == 0 {
+        return 0;
+    }
+    weights[0] as u32
 }
 
 // Each street's best score once a site is chosen besides, whose values are the row.
@@ -53,8 +74,8 @@ fn part_end(from: usize, n: usize) -> usize
     if to < n { to } else { n }
 }
 
-// The total with a site besides: the sum over the streets of the better of the street's best and the site's value.
-pub fn sum_with(bests: &[u16], row: &[u16]) -> u32
+// The sum over the streets of the better of the street's best and the site's value, with no weights.
+fn plain_sum_with(bests: &[u16], row: &[u16]) -> u32
     requires { ⌜ Beside (now bests) (now row) ⌝ }
     ensures { λ r. ⌜ r ≡ sumOf (length (now (bests .entry))) (λ s. max (at (now (bests .entry)) s) (at (now (row .entry)) s)) ⌝ }
 {
@@ -69,8 +90,35 @@ pub fn sum_with(bests: &[u16], row: &[u16]) -> u32
     raised
 }
 
-// The sum of the streets' bests.
-pub fn sum(bests: &[u16]) -> u32
+// The same with each street's weight.
+fn weighed_sum_with(bests: &[u16], row: &[u16], weights: &[u8]) -> u32
+    requires { ⌜ Beside (now bests) (now row) × (length (now weights) ≡ length (now bests)) × Weights (now weights) ⌝ }
+    ensures { λ r. ⌜ r ≡ sumOf (length (now (bests .entry)))
+        (λ s. at (now (weights .entry)) s * max (at (now (bests .entry)) s) (at (now (row .entry)) s)) ⌝ }
+{
+    let mut counted: u32 = 0;
+    for s in 0..bests.len() {
+        counted = counted + times(weights[s], greater(bests[s], row[s]));
+    }
+    counted
+}
+
+// The total with a site besides, by the streets' weights.
+pub fn sum_with(bests: &[u16], row: &[u16], weights: &[u8], even: bool) -> u32
+    requires { ⌜ Beside (now bests) (now row) × Weighed (length (now bests)) (now weights) even ⌝ }
+    ensures { λ r. ⌜ r ≡ sumOf (length (now (bests .entry)))
+        (λ s. at (now (weights .entry)) s * max (at (now (bests .entry)) s) (at (now (row .entry)) s)) ⌝ }
+{
+    if even {
+        let weight = first(weights);
+        let raised = plain_sum_with(bests, row);
+        return weight * raised;
+    }
+    weighed_sum_with(bests, row, weights)
+}
+
+// The sum of the streets' bests, with no weights.
+fn plain_sum(bests: &[u16]) -> u32
     requires { ⌜ Scores (now bests) × (length (now bests) ≤ mostStreets) ⌝ }
     ensures { λ r. ⌜ r ≡ sumOf (length (now (bests .entry))) (at (now (bests .entry))) ⌝ }
 {
@@ -79,4 +127,30 @@ pub fn sum(bests: &[u16]) -> u32
         total = total + wide(bests[s]);
     }
     total
+}
+
+// The same with each street's weight.
+fn weighed_sum(bests: &[u16], weights: &[u8]) -> u32
+    requires { ⌜ Scores (now bests) × (length (now bests) ≤ mostStreets) ⌝ }
+    requires { ⌜ (length (now weights) ≡ length (now bests)) × Weights (now weights) ⌝ }
+    ensures { λ r. ⌜ r ≡ sumOf (length (now (bests .entry))) (λ s. at (now (weights .entry)) s * at (now (bests .entry)) s) ⌝ }
+{
+    let mut so_far: u32 = 0;
+    for s in 0..bests.len() {
+        so_far = so_far + times(weights[s], bests[s]);
+    }
+    so_far
+}
+
+// The total of the streets' bests, by the streets' weights.
+pub fn sum(bests: &[u16], weights: &[u8], even: bool) -> u32
+    requires { ⌜ Scores (now bests) × (length (now bests) ≤ mostStreets) × Weighed (length (now bests)) (now weights) even ⌝ }
+    ensures { λ r. ⌜ r ≡ sumOf (length (now (bests .entry))) (λ s. at (now (weights .entry)) s * at (now (bests .entry)) s) ⌝ }
+{
+    if even {
+        let weight = first(weights);
+        let plain = plain_sum(bests);
+        return weight * plain;
+    }
+    weighed_sum(bests, weights)
 }

@@ -24,3 +24,10 @@ pub fn fill_scores(scores: &mut [u16]) {
         scores[i] = (1000 - i % 64) as u16;
     }
 }
+
+// Falling weights from 99 on, no two alike among 64.
+pub fn fill_weights(weights: &mut [u8]) {
+    for s in 0..weights.len() {
+        weights[s] = (99 - s % 64) as u8;
+    }
+}

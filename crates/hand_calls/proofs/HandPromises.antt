@@ -3,20 +3,25 @@
 use mathlib.Core.Path.{_≡_, sym, _∙_}
 use mathlib.Core.Bool.{true}
 use Prim.Native.Nat.{ℕ}
+use lib.ListN.{length}
+use Rattle.counting.proofs.Refusals.{or-zero}
 use Rattle.survey.specs.Rows.{value}
+use Rattle.survey.proofs.Sound.{own-accepted}
 use Rattle.division.specs.Shares.{shareSum}
 use Rattle.division.proofs.Counts.{in-length}
 use Rattle.division.proofs.Best.{divide-most}
 use Rattle.balanced_plan.proofs.CountedShares.{by-counts}
 use Rattle.plans.specs.Plans.{planTotal, sharesFor}
+use Rattle.plans.specs.Unweighted.{Ones, plainPlanTotal}
+use Rattle.plans.proofs.Unweighted.{plan-total-plain}
 use Rattle.refusals.specs.Inputs.{HandInput}
 use Rattle.refusals.specs.Refusals.{Tried, LoadNumbers, loadNumbers, noLoads, handBy, handRefusal, freeHandBy, balancedHandBy, LoadsTaken}
-use Rattle.refusals.proofs.Listed.{passed}
+use Rattle.refusals.proofs.Listed.{passed, fits}
 use Rattle.refusals.proofs.ByKind.{hand-free, hand-balanced, hand-other}
 use Rattle.refusals.proofs.Passed.{hand-passed, shares-passed, loads-same}
 use Rattle.call_answers.specs.declared.Answer.{Answer}
 use Rattle.call_answers.specs.Answers.{Told, number, accepts}
-use Rattle.call_answers.proofs.Answers.{told-passed}
+use Rattle.call_answers.proofs.Answers.{told-passed, told-same}
 use Rattle.hand_calls.specs.Passing.{LoadedHand, SharedHand}
 use Rattle.hand_calls.specs.Calls.{HandOutcome, HandTested}
 
@@ -39,6 +44,15 @@ module _ (i : HandInput) (r : Answer) (told : Told r (handRefusal i) (planTotal 
       let sum : shareSum (sharesFor t sites) ≡ t .n = sym (in-length (i .division) (sharesFor t sites) shares) ∙ h .size in
       record { sites = sites; choice = choice; in-shares = shares; most = divide-most (value t) (t .n) (sharesFor t sites) sum (i .division) shares }
 
+  -- with every weight 1 a plan that passes totals the scores
+  plain : Ones (i .town) → Told r (handRefusal i) (plainPlanTotal (i .town) (i .division))
+  plain ones = told-same (λ z. plan-total-plain (i .town) ones (i .division) (size z)) told
+    where
+      size : handRefusal i ≡ 0 → length (i .division) ≡ i .town .n
+      size z =
+          let own = or-zero _ _ (own-accepted (i .town) (i .k) _ (hand-passed i z .survey)) in
+          fits (length (i .division)) (i .town .n) (or-zero _ _ (own .1) .0)
+
   outcome : HandOutcome handBy i r
   outcome = record { answer = told; loaded = loaded }
 
@@ -54,6 +68,7 @@ module _ (i : HandInput) (r : Answer) (told : Told r (handRefusal i) (planTotal 
         free = λ z. outcome-as freeHandBy (λ loads. hand-free loads i z);
         balanced = λ z. outcome-as balancedHandBy (λ loads. hand-balanced loads i z);
         other = λ l. told .right-number ∙ hand-other _ i l;
+        plain = plain;
         shared = shared;
       }
 

@@ -5,8 +5,9 @@ use mathlib.Core.Path.{_≡_}
 use mathlib.Core.Bool.{true}
 use Rattle.survey.specs.Refusals.{surveyRefusal}
 use Rattle.plans.specs.Plans.{planTotal}
+use Rattle.plans.specs.Unweighted.{Ones, plainPlanTotal}
 use Rattle.refusals.specs.Inputs.{HandInput}
-use Rattle.refusals.specs.Refusals.{LoadNumbers, loadNumbers, noLoads, LoadsTaken, handBy, freeHandBy, balancedHandBy}
+use Rattle.refusals.specs.Refusals.{LoadNumbers, loadNumbers, noLoads, LoadsTaken, handBy, handRefusal, freeHandBy, balancedHandBy}
 use Rattle.call_answers.specs.declared.Answer.{Answer}
 use Rattle.call_answers.specs.Answers.{Told, number, accepts}
 use Rattle.hand_calls.specs.Passing.{LoadedHand, SharedHand}
@@ -27,5 +28,7 @@ pub record HandTested (i : HandInput) (r : Answer) : Type 0 where
   pub balanced : i .kind ≡ 1 → HandOutcome balancedHandBy i r
   -- for any other kind it is refused: 4, if none of 1, 2 and 3 comes before it
   pub other : 1 < i .kind → number r ≡ surveyRefusal (i .town) (i .k) 4
+  -- with every weight 1 the total is that of the scores
+  pub plain : Ones (i .town) → Told r (handRefusal i) (plainPlanTotal (i .town) (i .division))
   -- a balanced plan that passes is a division in the shares of some K sites
   pub shared : i .kind ≡ 1 → accepts r ≡ true → SharedHand (i .town) (i .k) (i .division)

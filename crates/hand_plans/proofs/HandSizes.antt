@@ -2,33 +2,34 @@
 -- Assumes nothing.
 use mathlib.Core.Path.{_≡_, sym, _∙_}
 use mathlib.Core.List.{List}
-use Prim.Native.Nat.{ℕ, _*_, _≤_}
+use Prim.Native.Nat.{ℕ, _≤_}
 use lib.ListN.{length}
-use Rattle.counting.specs.Bounds.{mostStreets, mostSites}
 use Rattle.counting.specs.Words.{_orElse_}
 use Rattle.counting.proofs.Refusals.{or-zero}
 use Rattle.survey.specs.Town.{Town}
+use Rattle.survey.specs.Accepted.{Accepted}
 use Rattle.survey.specs.Refusals.{lengthRefusal, surveyRefusal}
 use Rattle.survey.proofs.Sound.{accepted, own-accepted, chosen-within}
 use Rattle.loads.specs.Loads.{Loads, aboveRefusal, lengthsRefusal, loadsRefusal}
 use Rattle.refusals.proofs.Listed.{fits}
 
--- few sites and streets, at least one site to choose, a row and a site for each street, and loads and limits of their lengths
+-- a sound survey, at least one site to choose, a site for each street, and loads and limits of their lengths
 pub record HandSizes (t : Town) (k : ℕ) (division : List ℕ) (loads : Loads) : Type 0 where
   pub some-chosen : 1 ≤ k
-  pub fit : (length (t .rows) ≡ t .n * t .m) × (length division ≡ t .n) × (t .n ≤ mostStreets) × (t .m ≤ mostSites)
+  pub survey : Accepted t
+  pub size : length division ≡ t .n
   pub lengths : lengthsRefusal (t .n) (t .m) loads ≡ 0
 
 -- whatever the call tried for its kind before the lengths
 pub hand-tried : (t : Town) (k own r kind : ℕ) (division : List ℕ) (loads : Loads) → r ≡ surveyRefusal t k own → r ≡ 0
     → own ≡ kind orElse lengthRefusal (length division) (t .n) orElse lengthsRefusal (t .n) (t .m) loads → HandSizes t k division loads
 hand-tried t k own r kind division loads e z o =
-    let ok = accepted t k own (sym e ∙ z) in
     let lengths = or-zero kind _ (sym o ∙ own-accepted t k own (sym e ∙ z)) .1 in
     let (streets, rest) = or-zero (lengthRefusal (length division) (t .n)) _ lengths in
     record {
       some-chosen = chosen-within t k own (sym e ∙ z) .0;
-      fit = (ok .rows-fit, fits (length division) (t .n) streets, ok .few-streets, ok .few-sites);
+      survey = accepted t k own (sym e ∙ z);
+      size = fits (length division) (t .n) streets;
       lengths = rest;
     }
 

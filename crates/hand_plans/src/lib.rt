@@ -6,9 +6,10 @@ ghost use lib.ListN.{length};
 ghost use Rattle.counting.specs.Bounds.{mostStreets, mostSites};
 ghost use Rattle.counting.specs.Words.{_orElse_, one, countOf};
 ghost use Rattle.counting.specs.Lists.{at};
-ghost use Rattle.survey.specs.Town.{town, was};
+ghost use Rattle.survey.specs.Town.{townOf, town, was};
 ghost use Rattle.survey.specs.Refusals.{lengthRefusal};
-ghost use Rattle.survey.specs.Rows.{rowAt, scoreOf, value};
+ghost use Rattle.survey.specs.Accepted.{Accepted};
+ghost use Rattle.survey.specs.Rows.{rowAt, countedOf, value};
 ghost use Rattle.division.specs.Shares.{divisionTotal};
 ghost use Rattle.loads.specs.Loads.{loadsOf, loadsLent, lengthsRefusal};
 ghost use Rattle.loads.specs.Sums.{Summed};
@@ -105,24 +106,31 @@ fn lowest_site(kind: usize) -> u8
     1
 }
 
-// The score that the street s gives a site.
-fn street_score(m: usize, scores: &[u16], rows: &[u8], s: usize, site: u8) -> u16
+// The counted score that the street s gives a site.
+fn street_score(m: usize, scores: &[u16], weight: u8, rows: &[u8], s: usize, site: u8) -> u32
     requires { ⌜ s * m + m ≤ length (now rows) ⌝ }
-    ensures { λ r. ⌜ r ≡ scoreOf (was scores) (rowAt m (was rows) s) site ⌝ }
+    ensures { λ r. ⌜ r ≡ countedOf weight (was scores) (rowAt m (was rows) s) site ⌝ }
 {
     let from = s * m;
     let to = from + m;
-    survey::rows::score(scores, &rows[from..to], site)
+    survey::rows::counted(weight, scores, &rows[from..to], site)
 }
 
-// The plan's total: the sum over the streets of the score that each gives its site, 0 for site 0.
-fn plan_total(n: usize, m: usize, scores: &[u16], rows: &[u8], division: &[u8]) -> u32
-    requires { ⌜ (length (now rows) ≡ n * m) × (length (now division) ≡ n) × (n ≤ mostStreets) ⌝ }
-    ensures { λ r. ⌜ r ≡ divisionTotal (value (town n m scores rows)) (was division) ⌝ }
+// The plan's total: the sum over the streets of the counted score that each gives its site, 0 for site 0.
+fn plan_total(
+    n: usize,
+    m: usize,
+    scores: &[u16],
+    weights: &[u8],
+    rows: &[u8],
+    division: &[u8],
+) -> u32
+    requires { ⌜ Accepted (townOf n m (now scores) (now weights) (now rows)) × (length (now division) ≡ n) ⌝ }
+    ensures { λ r. ⌜ r ≡ divisionTotal (value (town n m scores weights rows)) (was division) ⌝ }
 {
     let mut total: u32 = 0;
     for s in 0..n {
-        total = total + street_score(m, scores, rows, s, division[s]) as u32;
+        total = total + street_score(m, scores, weights[s], rows, s, division[s]);
     }
     total
 }
@@ -132,14 +140,15 @@ fn claim_refusal(
     n: usize,
     m: usize,
     scores: &[u16],
+    weights: &[u8],
     rows: &[u8],
     division: &[u8],
     claimed: u32,
 ) -> u8
-    requires { ⌜ (length (now rows) ≡ n * m) × (length (now division) ≡ n) × (n ≤ mostStreets) ⌝ }
-    ensures { λ r. ⌜ r ≡ claimRefusal (town n m scores rows) (was division) claimed ⌝ }
+    requires { ⌜ Accepted (townOf n m (now scores) (now weights) (now rows)) × (length (now division) ≡ n) ⌝ }
+    ensures { λ r. ⌜ r ≡ claimRefusal (town n m scores weights rows) (was division) claimed ⌝ }
 {
-    if claimed != plan_total(n, m, scores, rows, division) {
+    if claimed != plan_total(n, m, scores, weights, rows, division) {
         return 19;
     }
     0
@@ -184,6 +193,7 @@ fn sent_refusal(
     n: usize,
     m: usize,
     scores: &[u16],
+    weights: &[u8],
     rows: &[u8],
     division: &[u8],
     claimed: u32,
@@ -194,10 +204,10 @@ fn sent_refusal(
     low: u8,
     used: u8,
 ) -> u8
-    requires { ⌜ (length (now rows) ≡ n * m) × (length (now division) ≡ n) × (n ≤ mostStreets) × (m ≤ mostSites) ⌝ }
+    requires { ⌜ Accepted (townOf n m (now scores) (now weights) (now rows)) × (length (now division) ≡ n) ⌝ }
     requires { ⌜ lengthsRefusal n m (loadsOf (now kilograms) (now litres) (now «kilogram_limits») (now «litre_limits»)) ≡ 0 ⌝ }
-    ensures { λ r. ⌜ r ≡ sentRefusal (town n m scores rows) (was division) claimed low used
-        (loadNumbers (town n m scores rows) (was division) (loadsLent kilograms litres «kilogram_limits» «litre_limits»)) ⌝ }
+    ensures { λ r. ⌜ r ≡ sentRefusal (town n m scores weights rows) (was division) claimed low used
+        (loadNumbers (town n m scores weights rows) (was division) (loadsLent kilograms litres «kilogram_limits» «litre_limits»)) ⌝ }
 {
     let r = loads::loads_refusal(kilograms, litres, kilogram_limits, litre_limits);
     if r != 0 {
@@ -221,7 +231,7 @@ fn sent_refusal(
     if r != 0 {
         return r;
     }
-    claim_refusal(n, m, scores, rows, division, claimed)
+    claim_refusal(n, m, scores, weights, rows, division, claimed)
 }
 
 // A hand plan. Free: a street may go to site 0, and at most k sites are used. Balanced: every street goes to a site, and k sites have the rounds'
@@ -232,6 +242,7 @@ pub fn hand_refusal(
     k: usize,
     kind: usize,
     scores: &[u16],
+    weights: &[u8],
     rows: &[u8],
     division: &[u8],
     claimed: u32,
@@ -240,7 +251,7 @@ pub fn hand_refusal(
     kilogram_limits: &[u32],
     litre_limits: &[u32],
 ) -> u8
-    ensures { λ r. ⌜ Tried handRefusal (handLent n m k kind scores rows division claimed kilograms litres «kilogram_limits» «litre_limits») r ⌝ }
+    ensures { λ r. ⌜ Tried handRefusal (handLent n m k kind scores weights rows division claimed kilograms litres «kilogram_limits» «litre_limits») r ⌝ }
 {
     let own = own_refusal(
         kind,
@@ -253,7 +264,7 @@ pub fn hand_refusal(
         kilogram_limits,
         litre_limits,
     );
-    let r = check::survey_refusal(n, m, k, own, scores, rows);
+    let r = check::survey_refusal(n, m, k, own, scores, weights, rows);
     if r != 0 {
         return r;
     }
@@ -262,6 +273,7 @@ pub fn hand_refusal(
         n,
         m,
         scores,
+        weights,
         rows,
         division,
         claimed,

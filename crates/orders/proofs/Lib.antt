@@ -1,3 +1,1 @@
 pub mod Sorting
-pub mod Places
-pub mod Counting

@@ -1,4 +1,4 @@
-// What the scores and rows of a survey of the right sizes are refused for, and 0 where they are right.
+// What the scores, weights and rows of a survey of the right sizes are refused for, and 0 where they are right.
 use drawn_towns::BYTES;
 use plain_search::scores;
 ghost use Prim.Native.Nat.{_≤_};
@@ -12,6 +12,25 @@ fn scores_refusal(scores: &[u16]) -> u8 {
             return 8;
         }
         before = scores[i];
+    }
+    0
+}
+
+// 24: a weight outside 1 to 99.
+pub fn weight_refusal(weight: u8) -> u8 {
+    if weight == 0 {
+        return 24;
+    }
+    if 99 < weight { 24 } else { 0 }
+}
+
+// The weights, street by street.
+fn weights_refusal(weights: &[u8]) -> u8 {
+    for s in 0..weights.len() {
+        let x = weight_refusal(weights[s]);
+        if x != 0 {
+            return x;
+        }
     }
     0
 }
@@ -54,11 +73,15 @@ fn row_refusal(row: &[u8], m: usize) -> u8 {
     0
 }
 
-// The scores, and then n rows of m bytes.
-pub fn refusal(n: usize, m: usize, scores: &[u16], rows: [u8; BYTES]) -> u8
+// The scores, then the weights, and then n rows of m bytes.
+pub fn refusal(n: usize, m: usize, scores: &[u16], weights: &[u8], rows: [u8; BYTES]) -> u8
     requires { ⌜ (n ≤ 8) × (m ≤ 5) ⌝ }
 {
     let x = scores_refusal(scores);
+    if x != 0 {
+        return x;
+    }
+    let x = weights_refusal(weights);
     if x != 0 {
         return x;
     }

@@ -43,13 +43,6 @@ pub fn place(m: usize, k: usize, i: usize) -> usize
     i + count
 }
 
-// A score as a part of a total.
-pub fn wide(score: u16) -> u32
-    ensures { λ r. ⌜ r ≤ 65535 ⌝ }
-{
-    score as u32
-}
-
 // The score at a place, and 0 where the place is none of the first t.
 fn score_up_to(town: Town, place: usize, t: usize) -> u32
     requires { ⌜ Small town × (t ≤ town .m) ⌝ }
@@ -61,7 +54,7 @@ fn score_up_to(town: Town, place: usize, t: usize) -> u32
     if t < place {
         return 0;
     }
-    wide(town.scores[place - 1])
+    scores::wide(town.scores[place - 1])
 }
 
 // What the streets of round i give at the least, where t is the length of the shortest list.
@@ -73,9 +66,32 @@ fn added(town: Town, t: usize, i: usize) -> u32
     shares::of_round(town, i) as u32 * score
 }
 
-// The floor: what the rounds give at the least, each with its own share.
-pub fn floor(town: Town) -> u32
+// The lesser of two weights.
+fn lighter(x: u32, y: u32) -> u32
+    ensures { λ r. ⌜ r ≤ x ⌝ }
+{
+    if y < x {
+        return y;
+    }
+    x
+}
+
+// The smallest weight.
+fn least_weight(town: Town) -> u32
     requires { ⌜ Small town ⌝ }
+    ensures { λ r. ⌜ r ≤ 255 ⌝ }
+{
+    let mut least: u32 = 255;
+    for s in 0..town.n {
+        least = lighter(least, scores::weight(town, s));
+    }
+    least
+}
+
+// What the rounds give at the least, each with its own share, where every weight is 1.
+fn plain_floor(town: Town) -> u32
+    requires { ⌜ Small town ⌝ }
+    ensures { λ r. ⌜ r ≤ 3000000 ⌝ }
 {
     let t = shortest(town);
     let mut sum: u32 = 0;
@@ -83,4 +99,11 @@ pub fn floor(town: Town) -> u32
         sum = sum + added(town, t, i);
     }
     sum
+}
+
+// The floor: that times the smallest weight.
+pub fn floor(town: Town) -> u32
+    requires { ⌜ Small town ⌝ }
+{
+    least_weight(town) * plain_floor(town)
 }

@@ -1,4 +1,4 @@
-// Places, scores and totals of a small town.
+// Places, scores, counted scores and totals of a small town.
 use drawn_towns::STREETS;
 use drawn_towns::Town;
 ghost use Prim.Native.Nat.{_+_, _≤_};
@@ -40,14 +40,44 @@ pub fn score(town: Town, s: usize, site: u8) -> u16
     town.scores[found - 1]
 }
 
-// The total of a division: the sum of the scores that the streets give their sites.
+// A score as a part of a total.
+pub fn wide(score: u16) -> u32
+    ensures { λ r. ⌜ r ≤ 65535 ⌝ }
+{
+    score as u32
+}
+
+// A weight as a factor of a total.
+fn wide_weight(weight: u8) -> u32
+    ensures { λ r. ⌜ r ≤ 255 ⌝ }
+{
+    weight as u32
+}
+
+// The weight of street s as a factor of a total.
+pub fn weight(town: Town, s: usize) -> u32
+    requires { ⌜ Small town × (s ≤ 7) ⌝ }
+    ensures { λ r. ⌜ r ≤ 255 ⌝ }
+{
+    wide_weight(town.weights[s])
+}
+
+// The counted score that street s gives a site: its score times the street's weight.
+pub fn counted(town: Town, s: usize, site: u8) -> u32
+    requires { ⌜ Small town × (s ≤ 7) ⌝ }
+    ensures { λ r. ⌜ r ≤ 16711425 ⌝ }
+{
+    weight(town, s) * wide(score(town, s, site))
+}
+
+// The total of a division: the sum of the counted scores that the streets give their sites.
 pub fn total(town: Town, division: [u8; STREETS]) -> u32
     requires { ⌜ Small town ⌝ }
-    ensures { λ r. ⌜ r ≤ 600000 ⌝ }
+    ensures { λ r. ⌜ r ≤ 133691400 ⌝ }
 {
     let mut sum: u32 = 0;
     for s in 0..town.n {
-        sum = sum + score(town, s, division[s]) as u32;
+        sum = sum + counted(town, s, division[s]);
     }
     sum
 }

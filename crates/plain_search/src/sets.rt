@@ -34,18 +34,29 @@ struct Factors {
     less: u64,
 }
 
-// The best score that a site of a set has with street s.
-fn best_score(town: Town, s: usize, set: [bool; NUMBERS]) -> u16
-    requires { ⌜ Small town × (s ≤ 7) ⌝ }
+// The best counted score so far once a site is looked at, which counts only in the set.
+fn with_site(best: u32, town: Town, s: usize, site: u8, in_set: bool) -> u32
+    requires { ⌜ Small town × (s ≤ 7) × (best ≤ 16711425) ⌝ }
+    ensures { λ r. ⌜ r ≤ 16711425 ⌝ }
 {
-    let mut best: u16 = 0;
+    if !in_set {
+        return best;
+    }
+    let score = scores::counted(town, s, site);
+    if best < score {
+        return score;
+    }
+    best
+}
+
+// The best counted score that a site of a set has with street s.
+fn best_score(town: Town, s: usize, set: [bool; NUMBERS]) -> u32
+    requires { ⌜ Small town × (s ≤ 7) ⌝ }
+    ensures { λ r. ⌜ r ≤ 16711425 ⌝ }
+{
+    let mut best: u32 = 0;
     for i in 0..town.m {
-        if set[i + 1] {
-            let score = scores::score(town, s, (i + 1) as u8);
-            if best < score {
-                best = score;
-            }
-        }
+        best = with_site(best, town, s, (i + 1) as u8, set[i + 1]);
     }
     best
 }
@@ -53,11 +64,11 @@ fn best_score(town: Town, s: usize, set: [bool; NUMBERS]) -> u16
 // The total of a set of sites.
 pub fn set_total(town: Town, set: [bool; NUMBERS]) -> u32
     requires { ⌜ Small town ⌝ }
-    ensures { λ r. ⌜ r ≤ 600000 ⌝ }
+    ensures { λ r. ⌜ r ≤ 133691400 ⌝ }
 {
     let mut sum: u32 = 0;
     for s in 0..town.n {
-        sum = sum + best_score(town, s, set) as u32;
+        sum = sum + best_score(town, s, set);
     }
     sum
 }
@@ -201,7 +212,7 @@ fn size_of(town: Town, set: [bool; NUMBERS]) -> usize
 // The total of a set, if it has k sites, and else 0.
 fn total_of_choice(town: Town, set: [bool; NUMBERS]) -> u32
     requires { ⌜ Small town ⌝ }
-    ensures { λ r. ⌜ r ≤ 600000 ⌝ }
+    ensures { λ r. ⌜ r ≤ 133691400 ⌝ }
 {
     if size_of(town, set) != town.k {
         return 0;
@@ -211,8 +222,8 @@ fn total_of_choice(town: Town, set: [bool; NUMBERS]) -> u32
 
 // The greater of two totals.
 fn greater(x: u32, y: u32) -> u32
-    requires { ⌜ (x ≤ 600000) × (y ≤ 600000) ⌝ }
-    ensures { λ r. ⌜ r ≤ 600000 ⌝ }
+    requires { ⌜ (x ≤ 133691400) × (y ≤ 133691400) ⌝ }
+    ensures { λ r. ⌜ r ≤ 133691400 ⌝ }
 {
     if x < y {
         return y;
@@ -223,7 +234,7 @@ fn greater(x: u32, y: u32) -> u32
 // The greatest total that any k sites of 1 to m have.
 pub fn best_total(town: Town) -> u32
     requires { ⌜ Small town ⌝ }
-    ensures { λ r. ⌜ r ≤ 600000 ⌝ }
+    ensures { λ r. ⌜ r ≤ 133691400 ⌝ }
 {
     let mut best: u32 = 0;
     for number in 0..SETS {
@@ -250,15 +261,15 @@ fn powers(k: usize) -> Factors
 
 // A factor times a total.
 fn times(factor: u64, total: u32) -> u64
-    requires { ⌜ (factor ≤ 3125) × (total ≤ 600000) ⌝ }
-    ensures { λ r. ⌜ r ≤ 1875000000 ⌝ }
+    requires { ⌜ (factor ≤ 3125) × (total ≤ 133691400) ⌝ }
+    ensures { λ r. ⌜ r ≤ 417785625000 ⌝ }
 {
     factor * total as u64
 }
 
 // Whether a total of k sites is as near to the best one as the bound of the free plan has it.
 pub fn is_near(k: usize, best: u32, total: u32) -> bool
-    requires { ⌜ best ≤ 600000 ⌝ }
+    requires { ⌜ best ≤ 133691400 ⌝ }
 {
     if best <= total {
         return best == total;

@@ -10,6 +10,7 @@ use Rattle.survey.proofs.Sound.{accepted, chosen-within}
 use Rattle.free_plan.proofs.Sites.{free-plan}
 use Rattle.free_plan.proofs.Bound.{bound-plan}
 use Rattle.free_results.proofs.Scored.{served-total}
+use Rattle.plans.proofs.Orders.{by-counted-score}
 use Rattle.plans.specs.Plans.{listTotal, freeDivision, freeSites, balancedDivision, streetKey, balancedSites, balancedTotal}
 use Rattle.plans.specs.Best.{BestDivision}
 use Rattle.balanced_results.proofs.BestDivisions.{best-division}
@@ -47,6 +48,7 @@ module _ (t : Town) (k own : ℕ) (ok : surveyRefusal t k own ≡ 0) (enough : s
   good-balanced =
       record {
         sites = sites;
+        order = by-counted-score (call .survey);
         best = best;
         floor = plan-floor (call .survey) k (call .some) (call .few) sites;
         passes = balanced-list-passes t k own ok (balancedSites t k) sites enough (best .in-shares);

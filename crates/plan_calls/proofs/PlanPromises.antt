@@ -1,4 +1,4 @@
--- The plan's promise, from its answer and what its buffers hold: it is the plan of its kind, and good.
+-- The promises of the plan, from its answer and what its buffers hold, and of the floor.
 -- Assumes nothing.
 use mathlib.Core.Path.{_≡_, sym, ap, _∙_}
 use mathlib.Core.Bool.{true}
@@ -7,19 +7,21 @@ use Prim.Native.Nat.{ℕ}
 use lib.ListN.{length}
 use Rattle.counting.proofs.Refusals.{or-zero}
 use Rattle.survey.specs.Refusals.{shareRefusal}
-use Rattle.survey.proofs.Sound.{own-accepted}
+use Rattle.survey.proofs.Sound.{accepted, own-accepted, chosen-within}
 use Rattle.survey.proofs.ByKind.{kind-free, kind-balanced, kind-one}
-use Rattle.plans.specs.Plans.{Plan, freePlan, balancedPlan, planOfKind}
-use Rattle.refusals.specs.Inputs.{PlanInput}
-use Rattle.refusals.specs.Refusals.{Tried, planRefusal, freePlanRefusal, balancedPlanRefusal}
+use Rattle.plans.specs.Plans.{Plan, freePlan, balancedPlan, planOfKind, planFloor}
+use Rattle.plans.specs.Unweighted.{Ones, plainPlanOfKind}
+use Rattle.plans.proofs.Unweighted.{plan-plain, floor-plain}
+use Rattle.refusals.specs.Inputs.{SurveyInput, PlanInput}
+use Rattle.refusals.specs.Refusals.{Tried, planRefusal, freePlanRefusal, balancedPlanRefusal, floorRefusal}
 use Rattle.refusals.proofs.Listed.{plan-fits}
 use Rattle.refusals.proofs.ByKind.{plan-free, plan-balanced, plan-other}
 use Rattle.call_answers.specs.declared.Answer.{Answer}
 use Rattle.call_answers.specs.declared.Answer.the-variants as answer
-use Rattle.call_answers.specs.Answers.{accepts, total}
-use Rattle.call_answers.proofs.Answers.{told-passed, told-due, told-new, told-refused, told-total, kept-refused, new-accepted}
+use Rattle.call_answers.specs.Answers.{Told, accepts, total}
+use Rattle.call_answers.proofs.Answers.{told-passed, told-due, told-new, told-refused, told-total, told-same, after-same, kept-refused, new-accepted}
 use Rattle.plan_calls.specs.Good.{GoodFree, GoodBalanced}
-use Rattle.plan_calls.specs.Calls.{PlanOutcome, Planned}
+use Rattle.plan_calls.specs.Calls.{PlanOutcome, Planned, FloorGiven}
 use Rattle.plan_calls.proofs.GoodPlans.{good-free, good-balanced}
 
 -- what an engine gave is a plan
@@ -30,6 +32,15 @@ module _ {i : PlanInput} {division chosen : List ℕ} {r : Answer} where
   -- the same outcome by another name of the number and of the plan
   outcome-as : {x y : ℕ} {p q : Plan} → x ≡ y → p ≡ q → PlanOutcome i x p division chosen r → PlanOutcome i y q division chosen r
   outcome-as e f o = rw (e, f) at o
+
+  -- and by another name that the plan has where nothing is refused
+  outcome-same : {x : ℕ} {p q : Plan} → (x ≡ 0 → p ≡ q) → PlanOutcome i x p division chosen r → PlanOutcome i x q division chosen r
+  outcome-same {x} h o =
+      record {
+        answer = told-same (λ z. ap (λ (p : Plan). p .reported) (h z)) (o .answer);
+        streets = o .streets ∙ after-same x _ _ _ (λ z. ap (λ (p : Plan). p .division) (h z));
+        sites = o .sites ∙ after-same x _ _ _ (λ z. ap (λ (p : Plan). p .sites) (h z));
+      }
 
   -- what is said of the plan is said of an accepted outcome
   of-plan : {x : ℕ} {p : Plan} (Good : List ℕ → List ℕ → ℕ → Type 0) → PlanOutcome i x p division chosen r → accepts r ≡ true
@@ -44,6 +55,7 @@ module _ {i : PlanInput} {division chosen : List ℕ} {r : Answer} where
         free = free;
         balanced = balanced;
         other = λ l. o .answer .right-number ∙ plan-other i l;
+        plain = λ ones. outcome-same (unweighted ones) o;
         good-free = good-0;
         good-balanced = good-1;
       }
@@ -53,6 +65,11 @@ module _ {i : PlanInput} {division chosen : List ℕ} {r : Answer} where
 
       balanced : i .kind ≡ 1 → PlanOutcome i (balancedPlanRefusal i) (balancedPlan (i .town) (i .k)) division chosen r
       balanced z = outcome-as (plan-balanced i z) (kind-balanced _ _ (i .kind) (kind-one z)) o
+
+      unweighted : Ones (i .town) → planRefusal i ≡ 0 → planOfKind (i .kind) (i .town) (i .k) ≡ plainPlanOfKind (i .kind) (i .town) (i .k)
+      unweighted ones z =
+          let (some, few) = chosen-within (i .town) (i .k) _ z in
+          plan-plain (i .town) ones (accepted (i .town) (i .k) _ z) (i .kind) (i .k) some few
 
       good-0 : i .kind ≡ 0 → accepts r ≡ true → GoodFree (i .town) (i .k) division chosen (total r)
       good-0 z y = of-plan (GoodFree (i .town) (i .k)) (free z) y (good-free (i .town) (i .k) _ (told-passed (free z .answer) y))
@@ -86,3 +103,11 @@ module _ {i : PlanInput} {x : ℕ} (tried : Tried planRefusal i x) where
   pub balanced-given : x ≡ 0 → (i .kind ≡ 0 → ⊥) → {division chosen : List ℕ} {reported : ℕ}
       → Made (balancedPlan (i .town) (length (i .chosen))) reported division chosen → Planned i division chosen (answer.Total reported)
   balanced-given z kind = given z _ (kind-balanced _ _ (i .kind) kind)
+
+-- ---- the floor
+pub floor-given : (i : SurveyInput) (r : Answer) → Told r (floorRefusal i) (planFloor (i .town) (i .k)) → FloorGiven i r
+floor-given i r told =
+    record {
+      answer = told;
+      plain = λ ones. told-same (λ z. floor-plain (i .town) ones (accepted (i .town) (i .k) _ z .some-street) (i .k)) told;
+    }

@@ -8,6 +8,7 @@ use mathlib.Core.List.{List}
 use Rattle.counting.specs.Buffers.{after}
 use Rattle.survey.specs.Refusals.{surveyRefusal}
 use Rattle.plans.specs.Plans.{Plan, freePlan, balancedPlan, planOfKind, planFloor}
+use Rattle.plans.specs.Unweighted.{Ones, plainPlanOfKind, plainFloor}
 use Rattle.refusals.specs.Inputs.{SurveyInput, PlanInput}
 use Rattle.refusals.specs.Refusals.{planRefusal, freePlanRefusal, balancedPlanRefusal, floorRefusal}
 use Rattle.call_answers.specs.declared.Answer.{Answer}
@@ -33,6 +34,8 @@ pub record Planned (i : PlanInput) (division chosen : List ℕ) (r : Answer) : T
   pub balanced : i .kind ≡ 1 → PlanOutcome i (balancedPlanRefusal i) (balancedPlan (i .town) (i .k)) division chosen r
   -- for any other kind it is refused: 4, if none of 1, 2 and 3 comes before it
   pub other : 1 < i .kind → number r ≡ surveyRefusal (i .town) (i .k) 4
+  -- with every weight 1 it is the plan by the scores alone
+  pub plain : Ones (i .town) → PlanOutcome i (planRefusal i) (plainPlanOfKind (i .kind) (i .town) (i .k)) division chosen r
   -- free: K different sites, the two sums, the bound over every choice of K sites, and the plan's own test
   pub good-free : i .kind ≡ 0 → accepts r ≡ true → GoodFree (i .town) (i .k) division chosen (total r)
   -- balanced: K different sites, no division in the same shares totals more, at least the floor, and the plan's own test
@@ -42,3 +45,5 @@ pub record Planned (i : PlanInput) (division chosen : List ℕ) (r : Answer) : T
 pub record FloorGiven (i : SurveyInput) (r : Answer) : Type 0 where
   -- the first number that applies, or the floor
   pub answer : Told r (floorRefusal i) (planFloor (i .town) (i .k))
+  -- with every weight 1 it is the floor by the scores alone
+  pub plain : Ones (i .town) → Told r (floorRefusal i) (plainFloor (i .town) (i .k))

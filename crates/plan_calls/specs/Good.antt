@@ -6,6 +6,7 @@ use Prim.Native.Nat.{ℕ, _-_, _*_, _^_, _≤_}
 use Rattle.counting.specs.Sites.{Choice}
 use Rattle.survey.specs.Town.{Town}
 use Rattle.plans.specs.Plans.{listTotal, planTotal, planFloor}
+use Rattle.plans.specs.Order.{ByCountedScore}
 use Rattle.plans.specs.Best.{BestDivision}
 use Rattle.loads.specs.Loads.{Loads, Within}
 use Rattle.refusals.specs.Inputs.{handOf}
@@ -21,7 +22,7 @@ PassesTest kind t k division reported =
 pub record GoodFree (t : Town) (k : ℕ) (division chosen : List ℕ) (reported : ℕ) : Type 0 where
   -- the sites are k different ones of 1 to m
   pub sites : Choice (t .m) k chosen
-  -- the total is that of the sites, and the sum of the scores that the streets give the sites they go to
+  -- the total is that of the sites, and the sum of the counted scores that the streets give the sites they go to
   pub of-sites : reported ≡ listTotal t chosen
   pub of-streets : reported ≡ planTotal t division
   -- no choice of k sites is better by more than the bound says: K ^ K * (T - S) ≤ (K - 1) ^ K * T
@@ -33,6 +34,8 @@ pub record GoodFree (t : Town) (k : ℕ) (division chosen : List ℕ) (reported 
 pub record GoodBalanced (t : Town) (k : ℕ) (division chosen : List ℕ) (reported : ℕ) : Type 0 where
   -- the sites are k different ones of 1 to m
   pub sites : Choice (t .m) k chosen
+  -- in each round the streets came by counted score, highest first, then by place, then by number
+  pub order : ByCountedScore t
   -- the division is the best one over them in the rounds' shares, and the total is its own
   pub best : BestDivision t chosen division reported
   -- the total is at least the floor

@@ -49,7 +49,7 @@ fn packed_answer(answer: Answer) -> u64
 pub extern "C" fn planner_version() -> u32
     ensures { λ r. ⌜ r ≡ version ⌝ }
 {
-    202604
+    202605
 }
 
 // Checks a survey of n streets and m sites of which k are to be chosen; its total is 0.
@@ -59,11 +59,12 @@ pub extern "C" fn planner_check_survey(
     m: usize,
     k: usize,
     scores: &[u16],
+    weights: &[u8],
     rows: &[u8],
 ) -> u64
-    ensures { λ r. ⌜ PacksChecked (SurveyChecked (surveyLent n m k scores rows)) r ⌝ }
+    ensures { λ r. ⌜ PacksChecked (SurveyChecked (surveyLent n m k scores weights rows)) r ⌝ }
 {
-    packed_check(planner::check_survey(n, m, k, scores, rows))
+    packed_check(planner::check_survey(n, m, k, scores, weights, rows))
 }
 
 // The length of the ranked part of a row; its bytes are the caller's own. Refuses nothing.
@@ -74,12 +75,18 @@ pub extern "C" fn planner_ranked_part(row: &[u8]) -> usize
     planner::ranked_part(row).len()
 }
 
-// The score that one row of m bytes gives one site.
+// The score that one row of m bytes gives one site, times the street's weight.
 #[no_mangle]
-pub extern "C" fn planner_row_score(m: usize, scores: &[u16], row: &[u8], site: u8) -> u64
-    ensures { λ r. ⌜ PacksAnswer (RowScored (rowLent m scores row site)) r ⌝ }
+pub extern "C" fn planner_row_score(
+    m: usize,
+    scores: &[u16],
+    weight: u8,
+    row: &[u8],
+    site: u8,
+) -> u64
+    ensures { λ r. ⌜ PacksAnswer (RowScored (rowLent m scores weight row site)) r ⌝ }
 {
-    packed_answer(planner::row_score(m, scores, row, site))
+    packed_answer(planner::row_score(m, scores, weight, row, site))
 }
 
 // The total of a list of sites, as in the free plan.
@@ -88,12 +95,13 @@ pub extern "C" fn planner_list_total(
     n: usize,
     m: usize,
     scores: &[u16],
+    weights: &[u8],
     rows: &[u8],
     sites: &[u8],
 ) -> u64
-    ensures { λ r. ⌜ PacksAnswer (ListTotalled (listLent n m scores rows sites)) r ⌝ }
+    ensures { λ r. ⌜ PacksAnswer (ListTotalled (listLent n m scores weights rows sites)) r ⌝ }
 {
-    packed_answer(planner::list_total(n, m, scores, rows, sites))
+    packed_answer(planner::list_total(n, m, scores, weights, rows, sites))
 }
 
 // The free division over a list of sites, into a buffer of n bytes.
@@ -102,13 +110,14 @@ pub extern "C" fn planner_free_division(
     n: usize,
     m: usize,
     scores: &[u16],
+    weights: &[u8],
     rows: &[u8],
     sites: &[u8],
     division: &mut [u8],
 ) -> u64
-    ensures { λ r. ⌜ PacksAnswer (FreeDivided (divisionLent n m scores rows sites division) (is division)) r ⌝ }
+    ensures { λ r. ⌜ PacksAnswer (FreeDivided (divisionLent n m scores weights rows sites division) (is division)) r ⌝ }
 {
-    packed_answer(planner::free_division(n, m, scores, rows, sites, division))
+    packed_answer(planner::free_division(n, m, scores, weights, rows, sites, division))
 }
 
 // The best balanced division over a list of sites, into a buffer of n bytes: each site gets its share, the first sites of the list one street more.
@@ -117,13 +126,14 @@ pub extern "C" fn planner_balanced_division(
     n: usize,
     m: usize,
     scores: &[u16],
+    weights: &[u8],
     rows: &[u8],
     sites: &[u8],
     division: &mut [u8],
 ) -> u64
-    ensures { λ r. ⌜ PacksAnswer (BalancedDivided (divisionLent n m scores rows sites division) (is division)) r ⌝ }
+    ensures { λ r. ⌜ PacksAnswer (BalancedDivided (divisionLent n m scores weights rows sites division) (is division)) r ⌝ }
 {
-    packed_answer(planner::balanced_division(n, m, scores, rows, sites, division))
+    packed_answer(planner::balanced_division(n, m, scores, weights, rows, sites, division))
 }
 
 // The plan of k sites, free for kind 0 and balanced for kind 1, into buffers of n and of k bytes. In a balanced one every site gets its share, the
@@ -135,21 +145,29 @@ pub extern "C" fn planner_plan(
     k: usize,
     kind: usize,
     scores: &[u16],
+    weights: &[u8],
     rows: &[u8],
     division: &mut [u8],
     chosen: &mut [u8],
 ) -> u64
-    ensures { λ r. ⌜ PacksAnswer (Planned (planLent n m k kind scores rows division chosen) (is division) (is chosen)) r ⌝ }
+    ensures { λ r. ⌜ PacksAnswer (Planned (planLent n m k kind scores weights rows division chosen) (is division) (is chosen)) r ⌝ }
 {
-    packed_answer(planner::plan(n, m, k, kind, scores, rows, division, chosen))
+    packed_answer(planner::plan(n, m, k, kind, scores, weights, rows, division, chosen))
 }
 
 // The floor: what every balanced plan of k sites totals at least.
 #[no_mangle]
-pub extern "C" fn planner_floor(n: usize, m: usize, k: usize, scores: &[u16], rows: &[u8]) -> u64
-    ensures { λ r. ⌜ PacksAnswer (FloorGiven (surveyLent n m k scores rows)) r ⌝ }
+pub extern "C" fn planner_floor(
+    n: usize,
+    m: usize,
+    k: usize,
+    scores: &[u16],
+    weights: &[u8],
+    rows: &[u8],
+) -> u64
+    ensures { λ r. ⌜ PacksAnswer (FloorGiven (surveyLent n m k scores weights rows)) r ⌝ }
 {
-    packed_answer(planner::floor(n, m, k, scores, rows))
+    packed_answer(planner::floor(n, m, k, scores, weights, rows))
 }
 
 // Tests a hand-made plan, free for kind 0 and balanced for kind 1: the site of each street, in a free one 0 for none, and the total that is claimed
@@ -161,6 +179,7 @@ pub extern "C" fn planner_hand_plan(
     k: usize,
     kind: usize,
     scores: &[u16],
+    weights: &[u8],
     rows: &[u8],
     division: &[u8],
     claimed: u32,
@@ -170,7 +189,7 @@ pub extern "C" fn planner_hand_plan(
     litre_limits: &[u32],
 ) -> u64
     ensures { λ r. ⌜ PacksAnswer
-        (HandTested (handLent n m k kind scores rows division claimed kilograms litres «kilogram_limits» «litre_limits»)) r ⌝ }
+        (HandTested (handLent n m k kind scores weights rows division claimed kilograms litres «kilogram_limits» «litre_limits»)) r ⌝ }
 {
     packed_answer(planner::hand_plan(
         n,
@@ -178,6 +197,7 @@ pub extern "C" fn planner_hand_plan(
         k,
         kind,
         scores,
+        weights,
         rows,
         division,
         claimed,

@@ -1,2 +1,4 @@
 pub mod Plans
 pub mod Best
+pub mod Unweighted
+pub mod Order

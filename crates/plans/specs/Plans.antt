@@ -1,19 +1,20 @@
 -- The plans of a town: the theory's definitions at the town's values, in document 01's order. An engine says by these what it gives, and a call
 -- what it gives where it is accepted.
 -- Assumes nothing.
-use Prim.Native.Nat.{ℕ}
+use Prim.Native.Nat.{ℕ, _*_}
 use mathlib.Core.List.{List, []}
 use lib.ListN.{length}
 use Rattle.counting.specs.Lists.{has}
 use Rattle.counting.specs.Buffers.{listOf}
 use Rattle.survey.specs.Town.{Town}
 use Rattle.survey.specs.ByKind.{byKind}
-use Rattle.survey.specs.Rows.{listOfStreet, streetPlace, scoreAt, value, shortest}
+use Rattle.counting.specs.Bounds.{mostValue}
+use Rattle.survey.specs.Rows.{listOfStreet, streetPlace, scoreAt, value, shortest, leastWeight}
 use Rattle.free_plan.specs.Greedy.{total, greedy, goesTo}
 use Rattle.shares.specs.Rounds.{roundShare}
 use Rattle.division.specs.Shares.{divisionTotal, sharesOf}
 use Rattle.division.specs.Divide.{divide}
-use Rattle.balanced_plan.specs.Rounds.{State, rounds, placeKey}
+use Rattle.balanced_plan.specs.Rounds.{State, rounds, countedKey}
 use Rattle.balanced_plan.specs.Floor.{floor}
 
 -- total of a list of sites
@@ -40,9 +41,9 @@ sharesFor t sites = sharesOf (roundShare (t .n) (length sites)) sites (t .m)
 abbrev pub balancedDivision : Town → List ℕ → List ℕ
 balancedDivision t sites = divide (value t) (t .n) (sharesFor t sites)
 
--- the key by which a round orders the streets for a site
+-- the key by which a round orders the streets for a site: by counted score, highest first, then by place; `ComesFirst` says that order
 abbrev pub streetKey : Town → ℕ → ℕ → ℕ
-streetKey t = placeKey (streetPlace t) (t .m)
+streetKey t = countedKey (value t) (streetPlace t) mostValue (t .m)
 
 -- the balanced plan after its rounds; its sites are these, and its division the best one over them
 abbrev pub balancedRounds : Town → ℕ → State
@@ -73,6 +74,6 @@ balancedPlan t k = record { sites = balancedSites t k; division = balancedDivisi
 abbrev pub planOfKind : ℕ → Town → ℕ → Plan
 planOfKind kind t k = byKind kind (freePlan t k) (balancedPlan t k)
 
--- the floor
+-- the floor, times the smallest weight
 abbrev pub planFloor : Town → ℕ → ℕ
-planFloor t k = floor (roundShare (t .n) k) (scoreAt (t .scores)) (shortest t) (t .m) k
+planFloor t k = leastWeight t * floor (roundShare (t .n) k) (scoreAt (t .scores)) (shortest t) (t .m) k

@@ -8,7 +8,7 @@ use lib.Seq.{take-at}
 use Rattle.counting.specs.Bounds.{mostSites, mostRows}
 use Rattle.counting.specs.Buffers.{after, laid}
 use Rattle.counting.proofs.Refusals.{own-pass}
-use Rattle.survey.specs.Town.{Town, townOf, town}
+use Rattle.survey.specs.Town.{Town, plainTown, town}
 use Rattle.survey.specs.Refusals.{kindRefusal, lengthRefusal, surveyRefusal}
 use Rattle.survey.specs.Accepted.{Accepted}
 use Rattle.survey.proofs.Sound.{accepted}
@@ -42,8 +42,8 @@ front-read new old k x e z size = rw (e, z) (take-at new _ k size)
 
 -- the survey in the fronts of the buffers is the file's, and its text is what is printed
 pub record SurveyRead (file rows scores : List ℕ) (n m k kind : ℕ) : Type 0 where
-  pub asked : SurveyAsked (townOf n m (take m scores) (take (n * m) rows)) k kind
-  pub text : planText (townOf n m (take m scores) (take (n * m) rows)) k kind ≡ printed file
+  pub asked : SurveyAsked (plainTown n m (take m scores) (take (n * m) rows)) k kind
+  pub text : planText (plainTown n m (take m scores) (take (n * m) rows)) k kind ≡ printed file
 
 module _ {i : ReadInput} {scores rows : List ℕ} {r : Read} (given : FileRead i scores rows r) (long : length (i .rows) ≡ mostRows)
     (wide : length (i .scores) ≡ mostSites) where
@@ -82,7 +82,7 @@ module _ {i : ReadInput} {scores rows : List ℕ} {r : Read} (given : FileRead i
 
     -- what holds of the file's survey holds of it
     as-read : (P : Town → ℕ → ℕ → Type 0) → P (townIn (i .file)) (chosenIn (i .file)) (kindIn (i .file))
-        → P (townOf n m (take m scores) (take (n * m) rows)) k kind
+        → P (plainTown n m (take m scores) (take (n * m) rows)) k kind
     as-read P h = rw (scores-are, rows-are, same .streets, same .sites, same .chosen, same .of-kind) h
 
     text-is : planText (townIn (i .file)) (chosenIn (i .file)) (kindIn (i .file)) ≡ printed (i .file)

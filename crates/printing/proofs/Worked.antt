@@ -7,7 +7,7 @@ use Rattle.counting.specs.Words.{_when_, _unless_, _orElse_, firstOf}
 use Rattle.counting.specs.Lists.{count}
 use Rattle.counting.specs.Greatest.{seek, greatest}
 use Rattle.counting.specs.Buffers.{joined}
-use Rattle.survey.specs.Town.{townOf}
+use Rattle.survey.specs.Town.{plainTown}
 use Rattle.division.specs.Shares.{share, less, divisionTotal}
 use Rattle.division.specs.Divide.{divide}
 use Rattle.balanced_plan.specs.Rounds.{ordered, rounds}
@@ -35,7 +35,7 @@ text-12 = 114 ∷ 101 ∷ 102 ∷ 117 ∷ 115 ∷ 101 ∷ 100 ∷ 32 ∷ 49 ∷ 
 
 -- P7, balanced, as a file: four streets over three sites
 abbrev p7 : List ℕ
-p7 = encode (townOf 4 3 (2 ∷ 1 ∷ 0 ∷ []) (1 ∷ 2 ∷ 3 ∷ 1 ∷ 3 ∷ 2 ∷ 2 ∷ 1 ∷ 0 ∷ 3 ∷ 2 ∷ 1 ∷ [])) 3 1
+p7 = encode (plainTown 4 3 (2 ∷ 1 ∷ 0 ∷ []) (1 ∷ 2 ∷ 3 ∷ 1 ∷ 3 ∷ 2 ∷ 2 ∷ 1 ∷ 0 ∷ 3 ∷ 2 ∷ 1 ∷ [])) 3 1
 
 -- total 8, sites 1 2 3, street 1 1 1, street 2 1 1, street 3 2 1, street 4 3 1
 abbrev p7-text : List ℕ
@@ -48,11 +48,11 @@ p7-text =
 
 -- one street over two sites, balanced, as a file
 abbrev few : List ℕ
-few = encode (townOf 1 2 (1 ∷ 0 ∷ []) (1 ∷ 2 ∷ [])) 2 1
+few = encode (plainTown 1 2 (1 ∷ 0 ∷ []) (1 ∷ 2 ∷ [])) 2 1
 
 -- P8 as a file of a kind, and its listing: total 0, sites 1, street 1, the site and place 0
 abbrev p8 : ℕ → List ℕ
-p8 kind = encode (townOf 1 1 (7 ∷ []) (0 ∷ [])) 1 kind
+p8 kind = encode (plainTown 1 1 (7 ∷ []) (0 ∷ [])) 1 kind
 
 abbrev p8-text : ℕ → List ℕ
 p8-text site =

@@ -49,20 +49,21 @@ fn print_plan(
     k: usize,
     kind: usize,
     scores: &[u16],
+    weights: &[u8],
     rows: &[u8],
     division: &mut [u8],
     chosen: &mut [u8],
     out: &mut [u8],
 ) -> usize
-    requires { ⌜ PlanAsked (planOf (townOf n m (now scores) (now rows)) k kind (now division) (now chosen)) ⌝ }
+    requires { ⌜ PlanAsked (planOf (townOf n m (now scores) (now weights) (now rows)) k kind (now division) (now chosen)) ⌝ }
     requires { ⌜ mostText ≤ length (now out) ⌝ }
-    ensures { λ r. ⌜ Written (was out) 0 (planText (town n m scores rows) k kind) (is out) r ⌝ }
+    ensures { λ r. ⌜ Written (was out) 0 (planText (town n m scores weights rows) k kind) (is out) r ⌝ }
 {
-    let answer = planner::plan(n, m, k, kind, scores, rows, division, chosen);
+    let answer = planner::plan(n, m, k, kind, scores, weights, rows, division, chosen);
     write_answer(answer, m, rows, chosen, division, out)
 }
 
-// The text of an accepted survey, whose scores and rows are the fronts of two buffers.
+// The text of an accepted survey, whose scores and rows are the fronts of two buffers. Each street has the weight 1: a file gives no weights.
 fn print_survey<'a>(
     n: usize,
     m: usize,
@@ -76,6 +77,7 @@ fn print_survey<'a>(
     requires { ⌜ mostText ≤ length (now out) ⌝ }
     ensures { λ r. ⌜ Written (was out) 0 (planText (townHeld (surveyHeld n m k kind (was scores) (was rows))) k kind) (is out) r ⌝ }
 {
+    let ones = [1u8; Survey::STREETS];
     let mut division = [0u8; Survey::STREETS];
     let mut chosen = [0u8; Survey::SITES];
     let size = n * m;
@@ -85,6 +87,7 @@ fn print_survey<'a>(
         k,
         kind,
         &scores[..m],
+        &ones[..n],
         &rows[..size],
         &mut division[..n],
         &mut chosen[..k],

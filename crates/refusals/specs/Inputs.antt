@@ -3,7 +3,7 @@
 -- Assumes nothing.
 use Prim.Native.Nat.{ℕ}
 use mathlib.Core.List.{List}
-use Rattle.survey.specs.Town.{Town, Lent, was, town}
+use Rattle.survey.specs.Town.{Town, Lent, was, town, plainTown}
 use Rattle.loads.specs.Loads.{Loads, loadsLent}
 
 -- a survey with k sites to be chosen: check and floor
@@ -14,21 +14,22 @@ pub record SurveyInput : Type 0 where
 abbrev pub surveyOf : Town → ℕ → SurveyInput
 surveyOf t k = record { town = t; k = k }
 
-abbrev pub surveyLent : ℕ → ℕ → ℕ → Lent → Lent → SurveyInput
-surveyLent n m k scores rows = surveyOf (town n m scores rows) k
+abbrev pub surveyLent : ℕ → ℕ → ℕ → Lent → Lent → Lent → SurveyInput
+surveyLent n m k scores weights rows = surveyOf (town n m scores weights rows) k
 
--- one row of m bytes and one site, with the scores
+-- one row of m bytes and one site, with the scores and the street's weight
 pub record RowInput : Type 0 where
   pub m : ℕ
   pub scores : List ℕ
+  pub weight : ℕ
   pub row : List ℕ
   pub site : ℕ
 
-abbrev pub rowInputOf : ℕ → List ℕ → List ℕ → ℕ → RowInput
-rowInputOf m scores row site = record { m = m; scores = scores; row = row; site = site }
+abbrev pub rowInputOf : ℕ → List ℕ → ℕ → List ℕ → ℕ → RowInput
+rowInputOf m scores weight row site = record { m = m; scores = scores; weight = weight; row = row; site = site }
 
-abbrev pub rowLent : ℕ → Lent → Lent → ℕ → RowInput
-rowLent m scores row site = rowInputOf m (was scores) (was row) site
+abbrev pub rowLent : ℕ → Lent → ℕ → Lent → ℕ → RowInput
+rowLent m scores weight row site = rowInputOf m (was scores) weight (was row) site
 
 -- a given list of sites: its total
 pub record ListInput : Type 0 where
@@ -38,8 +39,8 @@ pub record ListInput : Type 0 where
 abbrev pub listInputOf : Town → List ℕ → ListInput
 listInputOf t sites = record { town = t; sites = sites }
 
-abbrev pub listLent : ℕ → ℕ → Lent → Lent → Lent → ListInput
-listLent n m scores rows sites = listInputOf (town n m scores rows) (was sites)
+abbrev pub listLent : ℕ → ℕ → Lent → Lent → Lent → Lent → ListInput
+listLent n m scores weights rows sites = listInputOf (town n m scores weights rows) (was sites)
 
 -- the same with a buffer for the division over it, free or balanced
 pub record DivisionInput : Type 0 where
@@ -50,8 +51,8 @@ pub record DivisionInput : Type 0 where
 abbrev pub divisionOf : Town → List ℕ → List ℕ → DivisionInput
 divisionOf t sites division = record { town = t; sites = sites; division = division }
 
-abbrev pub divisionLent : ℕ → ℕ → Lent → Lent → Lent → Lent → DivisionInput
-divisionLent n m scores rows sites division = divisionOf (town n m scores rows) (was sites) (was division)
+abbrev pub divisionLent : ℕ → ℕ → Lent → Lent → Lent → Lent → Lent → DivisionInput
+divisionLent n m scores weights rows sites division = divisionOf (town n m scores weights rows) (was sites) (was division)
 
 -- a plan of k sites of a kind, with a buffer for the division and one for the sites
 pub record PlanInput : Type 0 where
@@ -64,8 +65,8 @@ pub record PlanInput : Type 0 where
 abbrev pub planOf : Town → ℕ → ℕ → List ℕ → List ℕ → PlanInput
 planOf t k kind division chosen = record { town = t; k = k; kind = kind; division = division; chosen = chosen }
 
-abbrev pub planLent : ℕ → ℕ → ℕ → ℕ → Lent → Lent → Lent → Lent → PlanInput
-planLent n m k kind scores rows division chosen = planOf (town n m scores rows) k kind (was division) (was chosen)
+abbrev pub planLent : ℕ → ℕ → ℕ → ℕ → Lent → Lent → Lent → Lent → Lent → PlanInput
+planLent n m k kind scores weights rows division chosen = planOf (town n m scores weights rows) k kind (was division) (was chosen)
 
 -- a hand-made plan of k sites of a kind: a site for each street, the total that is claimed, and what the streets bring to their sites
 pub record HandInput : Type 0 where
@@ -79,11 +80,11 @@ pub record HandInput : Type 0 where
 abbrev pub handOf : Town → ℕ → ℕ → List ℕ → ℕ → Loads → HandInput
 handOf t k kind division claimed loads = record { town = t; k = k; kind = kind; division = division; claimed = claimed; loads = loads }
 
-abbrev pub handLent : ℕ → ℕ → ℕ → ℕ → Lent → Lent → Lent → ℕ → Lent → Lent → Lent → Lent → HandInput
-handLent n m k kind scores rows division claimed kilograms litres kilogramLimits litreLimits =
-    handOf (town n m scores rows) k kind (was division) claimed (loadsLent kilograms litres kilogramLimits litreLimits)
+abbrev pub handLent : ℕ → ℕ → ℕ → ℕ → Lent → Lent → Lent → Lent → ℕ → Lent → Lent → Lent → Lent → HandInput
+handLent n m k kind scores weights rows division claimed kilograms litres kilogramLimits litreLimits =
+    handOf (town n m scores weights rows) k kind (was division) claimed (loadsLent kilograms litres kilogramLimits litreLimits)
 
--- a survey with its kind, and a buffer for its file
+-- a survey with its kind, and a buffer for its file; a file gives no weights, so each street has the weight 1
 pub record WriteInput : Type 0 where
   pub town : Town
   pub k : ℕ
@@ -94,7 +95,7 @@ abbrev pub writeOf : Town → ℕ → ℕ → List ℕ → WriteInput
 writeOf t k kind file = record { town = t; k = k; kind = kind; file = file }
 
 abbrev pub writeLent : ℕ → ℕ → ℕ → ℕ → Lent → Lent → Lent → WriteInput
-writeLent n m k kind scores rows file = writeOf (town n m scores rows) k kind (was file)
+writeLent n m k kind scores rows file = writeOf (plainTown n m (was scores) (was rows)) k kind (was file)
 
 -- a file, and buffers for its scores and rows
 pub record ReadInput : Type 0 where

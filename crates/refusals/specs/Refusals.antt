@@ -1,4 +1,4 @@
--- For each call the first of document 01's numbers that applies, and 0 where the call is accepted. A division, a list of sites and a file
+-- For each call the first of the papers' numbers that applies, and 0 where the call is accepted. A division, a list of sites and a file
 -- are the lists of their bytes; of a buffer that is only written its length decides.
 -- Assumes nothing.
 use Prim.Native.Nat.{ℕ, suc, _-_}
@@ -13,7 +13,7 @@ use Rattle.counting.specs.Lists.{at, has, count}
 use Rattle.survey.specs.Town.{Town}
 use Rattle.survey.specs.Rows.{value}
 use Rattle.survey.specs.ByKind.{byKind}
-use Rattle.survey.specs.Refusals.{sitesRefusal, kindRefusal, shareRefusal, lengthRefusal, scoresRefusal, rowRefusal, surveyRefusal}
+use Rattle.survey.specs.Refusals.{sitesRefusal, kindRefusal, shareRefusal, lengthRefusal, scoresRefusal, weightRefusal, rowRefusal, surveyRefusal}
 use Rattle.shares.specs.Rounds.{leastShare, largerShares}
 use Rattle.division.specs.Shares.{divisionTotal}
 use Rattle.loads.specs.Loads.{Loads, lengthsRefusal, loadsRefusal, limitsRefusal}
@@ -33,13 +33,14 @@ checkRefusal i = surveyRefusal (i .town) (i .k) 0
 abbrev pub rangeRefusal : ℕ → ℕ → ℕ → ℕ
 rangeRefusal low m site = 17 when outside site low m
 
--- score of one row for one site
+-- counted score of one row for one site
 abbrev pub rowScoreRefusal : RowInput → ℕ
 rowScoreRefusal i =
     sitesRefusal (i .m) orElse
     lengthRefusal (length (i .scores)) (i .m) orElse
     lengthRefusal (length (i .row)) (i .m) orElse
     scoresRefusal (i .scores) orElse
+    weightRefusal (i .weight) orElse
     rowRefusal (i .m) (i .row) orElse
     rangeRefusal 1 (i .m) (i .site)
 

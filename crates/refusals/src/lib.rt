@@ -7,7 +7,8 @@ ghost use Rattle.survey.specs.Town.{town, was};
 ghost use Rattle.survey.specs.Refusals.{kindRefusal, shareRefusal, lengthRefusal};
 ghost use Rattle.refusals.specs.Inputs.{surveyLent, rowLent, listLent, divisionLent, planLent};
 ghost use Rattle.refusals.specs.Refusals.{Tried, rangeRefusal, rowScoreRefusal, rangesRefusal, twiceRefusal, listRefusal, listedRefusal};
-ghost use Rattle.refusals.specs.Refusals.{listTotalRefusal, freeDivisionRefusal, balanceRefusal, balancedDivisionRefusal, buffersRefusal, planKindRefusal, planRefusal, floorRefusal};
+ghost use Rattle.refusals.specs.Refusals.{listTotalRefusal, freeDivisionRefusal, balanceRefusal, balancedDivisionRefusal};
+ghost use Rattle.refusals.specs.Refusals.{buffersRefusal, planKindRefusal, planRefusal, floorRefusal};
 
 // 6: a lent buffer of other than its exact length.
 pub fn length_refusal(given: usize, due: usize) -> u8
@@ -32,9 +33,9 @@ fn range_refusal(low: u8, m: usize, site: u8) -> u8
     0
 }
 
-// The first refusal of a row of m bytes and a site, with the scores.
-pub fn row_score_refusal(m: usize, scores: &[u16], row: &[u8], site: u8) -> u8
-    ensures { λ r. ⌜ Tried rowScoreRefusal (rowLent m scores row site) r ⌝ }
+// The first refusal of a row of m bytes and a site, with the scores and the street's weight.
+pub fn row_score_refusal(m: usize, scores: &[u16], weight: u8, row: &[u8], site: u8) -> u8
+    ensures { λ r. ⌜ Tried rowScoreRefusal (rowLent m scores weight row site) r ⌝ }
 {
     if m < 1 {
         return 2;
@@ -49,6 +50,10 @@ pub fn row_score_refusal(m: usize, scores: &[u16], row: &[u8], site: u8) -> u8
         return 6;
     }
     let r = check::scores_refusal(scores);
+    if r != 0 {
+        return r;
+    }
+    let r = check::weight_refusal(weight);
     if r != 0 {
         return r;
     }
@@ -110,10 +115,18 @@ pub fn list_refusal(m: usize, sites: &[u8]) -> u8
 }
 
 // A survey with a given list of sites; `own` is what the call tries besides between 3 and 8.
-fn listed_refusal(n: usize, m: usize, own: u8, scores: &[u16], rows: &[u8], sites: &[u8]) -> u8
-    ensures { λ r. ⌜ r ≡ listedRefusal (town n m scores rows) (was sites) own ⌝ }
+fn listed_refusal(
+    n: usize,
+    m: usize,
+    own: u8,
+    scores: &[u16],
+    weights: &[u8],
+    rows: &[u8],
+    sites: &[u8],
+) -> u8
+    ensures { λ r. ⌜ r ≡ listedRefusal (town n m scores weights rows) (was sites) own ⌝ }
 {
-    let r = check::survey_refusal(n, m, sites.len(), own, scores, rows);
+    let r = check::survey_refusal(n, m, sites.len(), own, scores, weights, rows);
     if r != 0 {
         return r;
     }
@@ -121,10 +134,17 @@ fn listed_refusal(n: usize, m: usize, own: u8, scores: &[u16], rows: &[u8], site
 }
 
 // The total of a list of sites.
-pub fn list_total_refusal(n: usize, m: usize, scores: &[u16], rows: &[u8], sites: &[u8]) -> u8
-    ensures { λ r. ⌜ Tried listTotalRefusal (listLent n m scores rows sites) r ⌝ }
+pub fn list_total_refusal(
+    n: usize,
+    m: usize,
+    scores: &[u16],
+    weights: &[u8],
+    rows: &[u8],
+    sites: &[u8],
+) -> u8
+    ensures { λ r. ⌜ Tried listTotalRefusal (listLent n m scores weights rows sites) r ⌝ }
 {
-    listed_refusal(n, m, 0, scores, rows, sites)
+    listed_refusal(n, m, 0, scores, weights, rows, sites)
 }
 
 // A free division over a list of sites.
@@ -132,14 +152,15 @@ pub fn free_division_refusal(
     n: usize,
     m: usize,
     scores: &[u16],
+    weights: &[u8],
     rows: &[u8],
     sites: &[u8],
     division: &[u8],
 ) -> u8
-    ensures { λ r. ⌜ Tried freeDivisionRefusal (divisionLent n m scores rows sites division) r ⌝ }
+    ensures { λ r. ⌜ Tried freeDivisionRefusal (divisionLent n m scores weights rows sites division) r ⌝ }
 {
     let own = length_refusal(division.len(), n);
-    listed_refusal(n, m, own, scores, rows, sites)
+    listed_refusal(n, m, own, scores, weights, rows, sites)
 }
 
 // 5: more sites than streets.
@@ -168,14 +189,15 @@ pub fn balanced_division_refusal(
     n: usize,
     m: usize,
     scores: &[u16],
+    weights: &[u8],
     rows: &[u8],
     sites: &[u8],
     division: &[u8],
 ) -> u8
-    ensures { λ r. ⌜ Tried balancedDivisionRefusal (divisionLent n m scores rows sites division) r ⌝ }
+    ensures { λ r. ⌜ Tried balancedDivisionRefusal (divisionLent n m scores weights rows sites division) r ⌝ }
 {
     let own = balance_refusal(n, sites.len(), division);
-    listed_refusal(n, m, own, scores, rows, sites)
+    listed_refusal(n, m, own, scores, weights, rows, sites)
 }
 
 // 6 for the two buffers of a plan.
@@ -231,20 +253,28 @@ pub fn plan_refusal(
     k: usize,
     kind: usize,
     scores: &[u16],
+    weights: &[u8],
     rows: &[u8],
     division: &[u8],
     chosen: &[u8],
 ) -> u8
-    ensures { λ r. ⌜ Tried planRefusal (planLent n m k kind scores rows division chosen) r ⌝ }
+    ensures { λ r. ⌜ Tried planRefusal (planLent n m k kind scores weights rows division chosen) r ⌝ }
 {
     let own = plan_own_refusal(kind, n, k, division, chosen);
-    check::survey_refusal(n, m, k, own, scores, rows)
+    check::survey_refusal(n, m, k, own, scores, weights, rows)
 }
 
 // A floor.
-pub fn floor_refusal(n: usize, m: usize, k: usize, scores: &[u16], rows: &[u8]) -> u8
-    ensures { λ r. ⌜ Tried floorRefusal (surveyLent n m k scores rows) r ⌝ }
+pub fn floor_refusal(
+    n: usize,
+    m: usize,
+    k: usize,
+    scores: &[u16],
+    weights: &[u8],
+    rows: &[u8],
+) -> u8
+    ensures { λ r. ⌜ Tried floorRefusal (surveyLent n m k scores weights rows) r ⌝ }
 {
     let own = share_refusal(n, k);
-    check::survey_refusal(n, m, k, own, scores, rows)
+    check::survey_refusal(n, m, k, own, scores, weights, rows)
 }

@@ -73,7 +73,7 @@ fn same_sites(x: [u8; STREETS], y: [u8; STREETS], n: usize) -> bool
 }
 
 // Whether the first k chosen sites are the same.
-fn same_chosen(x: [u8; SITES], y: [u8; SITES], k: usize) -> bool
+pub fn same_chosen(x: [u8; SITES], y: [u8; SITES], k: usize) -> bool
     requires { ⌜ k ≤ 5 ⌝ }
 {
     for i in 0..k {

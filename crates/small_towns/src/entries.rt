@@ -18,14 +18,15 @@ fn divided(
     n: usize,
     m: usize,
     scores: &[u16],
+    weights: &[u8],
     rows: &[u8],
     sites: &[u8],
     division: &mut [u8],
 ) -> Answer {
     if balanced {
-        return planner::balanced_division(n, m, scores, rows, sites, division);
+        return planner::balanced_division(n, m, scores, weights, rows, sites, division);
     }
-    planner::free_division(n, m, scores, rows, sites, division)
+    planner::free_division(n, m, scores, weights, rows, sites, division)
 }
 
 // The division over a town's list.
@@ -36,7 +37,9 @@ pub fn division(town: Town, balanced: bool) -> Given
     let m = town.m;
     let len = town.len;
     let k = town.k;
+    let w = town.weighed;
     let scores = town.scores;
+    let weights = town.weights;
     let rows = town.rows;
     let sites = town.sites;
     let mut division = [UNTOUCHED; STREETS];
@@ -45,6 +48,7 @@ pub fn division(town: Town, balanced: bool) -> Given
         n,
         m,
         &scores[..m],
+        &weights[..w],
         &rows[..len],
         &sites[..k],
         &mut division[..n],
@@ -60,7 +64,9 @@ pub fn plan(town: Town, asked: Asked) -> Given
     let m = town.m;
     let len = town.len;
     let k = town.k;
+    let w = town.weighed;
     let scores = town.scores;
+    let weights = town.weights;
     let rows = town.rows;
     let mut division = [UNTOUCHED; STREETS];
     let mut chosen = [UNTOUCHED; SITES];
@@ -70,6 +76,7 @@ pub fn plan(town: Town, asked: Asked) -> Given
         asked.k,
         asked.kind,
         &scores[..m],
+        &weights[..w],
         &rows[..len],
         &mut division[..n],
         &mut chosen[..k],
@@ -84,10 +91,19 @@ pub fn list_total(town: Town) -> Given
     let m = town.m;
     let len = town.len;
     let k = town.k;
+    let w = town.weighed;
     let scores = town.scores;
+    let weights = town.weights;
     let rows = town.rows;
     let sites = town.sites;
-    let answer = planner::list_total(town.n, m, &scores[..m], &rows[..len], &sites[..k]);
+    let answer = planner::list_total(
+        town.n,
+        m,
+        &scores[..m],
+        &weights[..w],
+        &rows[..len],
+        &sites[..k],
+    );
     answers::told_alone(answer)
 }
 
@@ -97,10 +113,33 @@ pub fn floor(town: Town) -> Given
 {
     let m = town.m;
     let len = town.len;
+    let w = town.weighed;
     let scores = town.scores;
+    let weights = town.weights;
     let rows = town.rows;
-    let answer = planner::floor(town.n, m, town.k, &scores[..m], &rows[..len]);
+    let answer = planner::floor(town.n, m, town.k, &scores[..m], &weights[..w], &rows[..len]);
     answers::told_alone(answer)
+}
+
+// The check of a town's survey.
+pub fn check(town: Town) -> Given
+    requires { ⌜ Small town ⌝ }
+{
+    let m = town.m;
+    let len = town.len;
+    let w = town.weighed;
+    let scores = town.scores;
+    let weights = town.weights;
+    let rows = town.rows;
+    let answer = planner::check_survey(
+        town.n,
+        m,
+        town.k,
+        &scores[..m],
+        &weights[..w],
+        &rows[..len],
+    );
+    answers::plain(0, answers::number_of(answer))
 }
 
 // How many entries of a buffer are lent: all of them, or one fewer.
@@ -115,15 +154,20 @@ fn lent(len: usize, is_short: bool) -> usize
     len
 }
 
-// The test of a hand plan that is asked for, over a town's survey, with its loads.
-pub fn hand(town: Town, asked: Asked, division: [u8; STREETS], claimed: u32, loads: Loads) -> Given
-    requires { ⌜ Small town × Sized loads ⌝ }
+// The test of a hand plan that is asked for, over a survey of n streets and m sites, with its loads.
+fn tested(
+    asked: Asked,
+    n: usize,
+    m: usize,
+    scores: &[u16],
+    weights: &[u8],
+    rows: &[u8],
+    division: &[u8],
+    claimed: u32,
+    loads: Loads,
+) -> Answer
+    requires { ⌜ (n ≤ 8) × (m ≤ 5) × Sized loads ⌝ }
 {
-    let n = town.n;
-    let m = town.m;
-    let len = town.len;
-    let scores = town.scores;
-    let rows = town.rows;
     let kilograms = loads.kilograms.streets;
     let litres = loads.litres.streets;
     let kilogram_limits = loads.kilograms.limits;
@@ -132,19 +176,44 @@ pub fn hand(town: Town, asked: Asked, division: [u8; STREETS], claimed: u32, loa
     let b = lent(n, loads.short == 2);
     let c = lent(m, loads.short == 3);
     let d = lent(m, loads.short == 4);
-    let answer = planner::hand_plan(
+    planner::hand_plan(
         asked.n,
         asked.m,
         asked.k,
         asked.kind,
-        &scores[..m],
-        &rows[..len],
-        &division[..n],
+        scores,
+        weights,
+        rows,
+        division,
         claimed,
         &kilograms[..a],
         &litres[..b],
         &kilogram_limits[..c],
         &litre_limits[..d],
+    )
+}
+
+// The same over a town's survey.
+pub fn hand(town: Town, asked: Asked, division: [u8; STREETS], claimed: u32, loads: Loads) -> Given
+    requires { ⌜ Small town × Sized loads ⌝ }
+{
+    let n = town.n;
+    let m = town.m;
+    let len = town.len;
+    let w = town.weighed;
+    let scores = town.scores;
+    let weights = town.weights;
+    let rows = town.rows;
+    let answer = tested(
+        asked,
+        n,
+        m,
+        &scores[..m],
+        &weights[..w],
+        &rows[..len],
+        &division[..n],
+        claimed,
+        loads,
     );
     answers::told_alone(answer)
 }

@@ -21,16 +21,19 @@ mod rows;
 mod say;
 mod sizes;
 mod surveys;
+mod weights;
 
 // how many towns are tried, and how many wrong answers are printed
 const TOWNS: u64 = 3000;
 
 const SHOWN: u64 = 3;
 
-// how many answers are compared for each number of sites to choose, and for each row
-const ANSWERS: u64 = 62;
+// how many answers are compared for each number of sites to choose, for each street, and for the weights of a town
+const ANSWERS: u64 = 66;
 
-const ROW_ANSWERS: u64 = 8;
+const STREET_ANSWERS: u64 = 28;
+
+const WEIGHT_ANSWERS: u64 = 36;
 
 // What a run counts: the sizes that were tried, the answers compared, and the wrong ones.
 struct Counts {
@@ -53,12 +56,11 @@ fn wrong_lists(town: Town, shown: bool) -> u64
 // How many answers about plans of both kinds, and about damaged surveys and files of the town are wrong.
 fn wrong_others(seed: &mut u64, numbers: &mut [u64; NUMBERS], town: Town, shown: bool) -> u64
     requires { ⌜ Small town ⌝ }
-    ensures { λ r. ⌜ r ≤ 56 ⌝ }
+    ensures { λ r. ⌜ r ≤ 60 ⌝ }
 {
     let mut count = plans::wrong_plans(seed, numbers, town, 0, shown);
     count = count + plans::wrong_plans(seed, numbers, town, 1, shown);
-    count = count + surveys::wrong_scores(seed, town, shown);
-    count = count + surveys::wrong_rows(seed, town, shown);
+    count = count + surveys::wrong_surveys(seed, town, shown);
     count + files::wrong_files(seed, town, shown)
 }
 
@@ -74,7 +76,7 @@ impl Counts {
         requires { ⌜ Small town × Counted (self .sizes) × (self .sizes .choices ≤ 1000000) ⌝ }
         requires { ⌜ (self .compared ≤ 2000000) × (self .differences ≤ 2000000) ⌝ }
         ensures { λ r. ⌜ Counted (r .sizes) × (r .sizes .choices ≡ self .sizes .choices + 1) ⌝ }
-        ensures counts { λ r. ⌜ (r .compared ≤ self .compared + 62) × (r .differences ≤ self .differences + 62) ⌝ }
+        ensures counts { λ r. ⌜ (r .compared ≤ self .compared + 66) × (r .differences ≤ self .differences + 66) ⌝ }
     {
         let shown = self.differences < SHOWN;
         let sizes = self.sizes;
@@ -83,6 +85,20 @@ impl Counts {
         self.differences = self.differences + kinds::wrong_kinds(kinds, town, sizes.choices, shown);
         self.compared = self.compared + ANSWERS;
         self.sizes = sizes.with_choice(town);
+        self
+    }
+
+    // The counts with the streets of one town more, and with its weights made wrong.
+    fn with_streets(mut self, town: Town) -> Self
+        requires { ⌜ Small town × Counted (self .sizes) × (self .compared ≤ 1900000) × (self .differences ≤ 1900000) ⌝ }
+        ensures { λ r. ⌜ Counted (r .sizes) × (r .sizes .choices ≡ self .sizes .choices) ⌝ }
+        ensures counts { λ r. ⌜ (r .compared ≤ self .compared + 260) × (r .differences ≤ self .differences + 260) ⌝ }
+    {
+        let shown = self.differences < SHOWN;
+        self.differences = self.differences + rows::wrong_rows(town, shown);
+        self.differences = self.differences + weights::wrong_weights(town, shown);
+        self.compared = self.compared + STREET_ANSWERS * town.n as u64;
+        self.compared = self.compared + WEIGHT_ANSWERS;
         self
     }
 
@@ -97,11 +113,9 @@ impl Counts {
         requires { ⌜ Small town × Counted (self .sizes) × (self .sizes .choices ≤ 100000) ⌝ }
         requires { ⌜ (self .compared ≤ 1900000) × (self .differences ≤ 1900000) ⌝ }
         ensures { λ r. ⌜ Counted (r .sizes) × (r .sizes .choices ≤ self .sizes .choices + 5) ⌝ }
-        ensures counts { λ r. ⌜ (r .compared ≤ self .compared + 374) × (r .differences ≤ self .differences + 374) ⌝ }
+        ensures counts { λ r. ⌜ (r .compared ≤ self .compared + 590) × (r .differences ≤ self .differences + 590) ⌝ }
     {
-        let shown = self.differences < SHOWN;
-        self.differences = self.differences + rows::wrong_rows(town, shown);
-        self.compared = self.compared + ROW_ANSWERS * town.n as u64;
+        self = self.with_streets(town);
         let sites = town.sites;
         for i in 0..town.m {
             self = self.with_choice(

@@ -9,6 +9,8 @@ use crate::loads::NUMBERS;
 use drawn_towns::Town;
 use drawn_towns::asked;
 use drawn_towns::asked::Asked;
+use drawn_towns::weights;
+use plain_search::rounds;
 use plain_search::sets;
 ghost use Prim.Native.Nat.{_≤_};
 ghost use Rattle.drawn_towns.specs.Small.{Small};
@@ -38,6 +40,23 @@ fn keeps_bound(town: Town, kind: usize, total: u32) -> bool
     floor.total <= total
 }
 
+// Whether the chosen sites are those that the rounds chose without weights, where all weights are equal; elsewhere, and of a free plan, it says nothing.
+fn keeps_sites(town: Town, kind: usize, plan: Given) -> bool
+    requires { ⌜ Small town ⌝ }
+{
+    if kind == 0 {
+        return true;
+    }
+    if plan.refused != 0 {
+        return true;
+    }
+    if !weights::are_equal(town) {
+        return true;
+    }
+    let chosen = plan.chosen;
+    answers::same_chosen(chosen, rounds::sites_by_place(town), town.k)
+}
+
 // How many answers about the plan of one kind, and about hand plans made from it, are wrong.
 pub fn wrong_plans(
     seed: &mut u64,
@@ -47,11 +66,12 @@ pub fn wrong_plans(
     shown: bool,
 ) -> u64
     requires { ⌜ Small town ⌝ }
-    ensures { λ r. ⌜ r ≤ 24 ⌝ }
+    ensures { λ r. ⌜ r ≤ 25 ⌝ }
 {
     let asked = asked::of_kind(town, kind);
     let plan = entries::plan(town, asked);
     let mut count = answers::wrong(town, plan, right_plan(town, asked), shown);
     count = count + answers::fails(town, keeps_bound(town, kind, plan.total), shown);
+    count = count + answers::fails(town, keeps_sites(town, kind, plan), shown);
     count + hands::wrong_hands(seed, numbers, town, asked, plan, shown)
 }

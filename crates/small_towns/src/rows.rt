@@ -1,6 +1,7 @@
 // The entries on one row, compared street by street.
 use crate::answers;
 use drawn_towns::Town;
+use plain_files::surveys;
 use plain_search::scores;
 ghost use Prim.Native.Nat.{_+_, _≤_};
 ghost use Rattle.drawn_towns.specs.Small.{Small};
@@ -8,21 +9,25 @@ ghost use Rattle.drawn_towns.specs.Small.{Small};
 // the sites from 0 on that each row is tried with
 const TRIED: usize = 7;
 
-// What the entry must give: the score, and 17 for a site outside 1 to m.
+// What the entry must give: the counted score, 24 for a weight outside 1 to 99, and then 17 for a site outside 1 to m.
 fn right_answer(town: Town, s: usize, site: u8) -> answers::Given
     requires { ⌜ Small town × (s ≤ 7) ⌝ }
 {
+    let x = surveys::weight_refusal(town.weights[s]);
+    if x != 0 {
+        return answers::plain(0, x);
+    }
     if site == 0 {
         return answers::plain(0, 17);
     }
     if town.m < site as usize {
         return answers::plain(0, 17);
     }
-    answers::plain(scores::score(town, s, site) as u32, 0)
+    answers::plain(scores::counted(town, s, site), 0)
 }
 
 // 1 where the score that street s gives a site is another one, else 0.
-fn wrong_score(town: Town, s: usize, site: u8, shown: bool) -> u64
+pub fn wrong_score(town: Town, s: usize, site: u8, shown: bool) -> u64
     requires { ⌜ Small town × (s ≤ 7) ⌝ }
     ensures { λ r. ⌜ r ≤ 1 ⌝ }
 {
@@ -31,7 +36,7 @@ fn wrong_score(town: Town, s: usize, site: u8, shown: bool) -> u64
     let rows = town.rows;
     let from = scores::row_start(s, m);
     let to = from + m;
-    let answer = planner::row_score(m, &scores[..m], &rows[from..to], site);
+    let answer = planner::row_score(m, &scores[..m], town.weights[s], &rows[from..to], site);
     answers::wrong(
         town,
         answers::told_alone(answer),

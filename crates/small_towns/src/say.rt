@@ -54,10 +54,12 @@ pub fn town_lines(town: Town, k: usize)
     requires { ⌜ Small town × (k ≤ 5) ⌝ }
 {
     let scores = town.scores;
+    let weights = town.weights;
     let rows = town.rows;
     let sites = town.sites;
     io::write_all(STDOUT_FILENO, b"scores");
     say_scores(&scores, town.m);
-    bytes_line(b"\nrows", &rows, town.len);
+    bytes_line(b"\nweights", &weights, town.weighed);
+    bytes_line(b"rows", &rows, town.len);
     bytes_line(b"sites", &sites, k);
 }

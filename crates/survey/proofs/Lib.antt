@@ -1,6 +1,7 @@
 pub mod RowLoops
 pub mod Sound
 pub mod ByKind
+pub mod LeastWeights
 pub mod Places
 pub mod Lists
 pub mod Ones

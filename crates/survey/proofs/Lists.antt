@@ -4,12 +4,12 @@ use mathlib.Core.Path.{_≡_, refl, sym, ap, _∙_}
 use mathlib.Core.Bool.{true, false, true≢false}
 use mathlib.Core.Logic.{⊎-elim, by-cases}
 use mathlib.Core.List.{List, [], _∷_}
-use Prim.Native.Nat.{ℕ, zero, suc, _+_, _-_, _≤_, _<_}
+use Prim.Native.Nat.{ℕ, zero, suc, _+_, _-_, _*_, _≤_, _<_}
 use native.Mathlib.Nat.{eq-zero-or-pos, eq-or-lt-of-le, le-of-suc-le-suc}
 use native.Mathlib.Decide.{decLt}
 use native.Mathlib.Omega.{arith}
 use lib.Dec.{eqb}
-use lib.ListN.{length, take, length-take}
+use lib.ListN.{length, take, drop, length-take}
 use lib.Seq.{getD-take, take-take}
 use borrow.Author.Tests.{eq-eqb, ne-eqb}
 use Rattle.counting.specs.Lists.{at, has, distinct}
@@ -18,7 +18,7 @@ use Rattle.counting.proofs.Refusals.{when-zero, when-some, unless-yes, first-fi
 use Rattle.counting.proofs.Membership.{cond-at, apart}
 use Rattle.counting.proofs.Sums.{has-at, has-index}
 use Rattle.survey.specs.Town.{Town}
-use Rattle.survey.specs.Rows.{rowAt, rankedPart, listOfStreet, placeAt, placeIn, scoreAt, shortestOf, shortest}
+use Rattle.survey.specs.Rows.{rowAt, rankedPart, listOfStreet, placeAt, placeIn, placeOf, scoreAt, shortestOf, shortest}
 use Rattle.survey.specs.Accepted.{SoundRow, SoundScores}
 use Rattle.survey.proofs.Places.{place-at, place-some, scores-fall, ranked-sites}
 use Rattle.counting.proofs.Listed.{has-take}
@@ -65,6 +65,12 @@ ranked-front (b ∷ row) =
 -- so it is no longer
 pub ranked-length : (row : List ℕ) → length (rankedPart row) ≤ length row
 ranked-length row = omega (arith, length-take (length (rankedPart row)) row, ap length (ranked-front row))
+
+-- no place in a street's row is above the number of sites
+pub place-few : (m : ℕ) (rows : List ℕ) (s a : ℕ) → placeOf (rowAt m rows s) a ≤ m
+place-few m rows s a =
+    let row : List ℕ = rowAt m rows s in
+    omega (arith, place-most (rankedPart row) a, ranked-length row, length-take m (drop (s * m) rows))
 
 -- each of its numbers is above 0
 pub ranked-some : (row : List ℕ) (a : ℕ) → has a (rankedPart row) ≡ true → 0 < a

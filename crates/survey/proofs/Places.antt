@@ -4,23 +4,24 @@ use mathlib.Core.Path.{_≡_, refl, sym, ap, _∙_}
 use mathlib.Core.Bool.{Bool, true, false, true≢false}
 use mathlib.Core.Logic.{_≢_, ⊎-elim, by-cases}
 use mathlib.Core.List.{List, [], _∷_, _++_}
-use Prim.Native.Nat.{ℕ, zero, suc, _+_, _-_, _≤_, _<_, zero-le}
-use native.Mathlib.Nat.{eq-zero-or-pos, eq-or-lt-of-le}
+use Prim.Native.Nat.{ℕ, zero, suc, _+_, _-_, _*_, _≤_, _<_, zero-le}
+use native.Mathlib.Nat.{eq-zero-or-pos, eq-or-lt-of-le, mul-le-mul, mul-zero}
 use native.Mathlib.Decide.{decLt}
 use native.Mathlib.Omega.{arith}
 use lib.Dec.{eqb}
 use lib.ListN.{length, length-append, List·getD-append}
 use lib.Seq.{getD-at}
 use borrow.Author.Tests.{eq-eqb, ne-eqb, eqb-true, eqb-false}
-use Rattle.counting.specs.Bounds.{topScore}
+use Rattle.counting.specs.Bounds.{topScore, mostValue}
 use Rattle.counting.specs.Words.{_when_, _unless_, _orElse_, firstOf}
 use Rattle.counting.specs.Lists.{at, has}
 use Rattle.counting.proofs.Refusals.{or-pass, or-none, or-neither, when-yes, when-none, when-zero, when-some, unless-yes, unless-none, first-none, first-found, first-find, first-same, first-zeros}
 use Rattle.counting.proofs.Membership.{cond-at, has-none}
 use Rattle.counting.proofs.Sums.{has-at, at-past}
 use Rattle.survey.specs.Town.{Town}
-use Rattle.survey.specs.Rows.{rankedPart, placeAt, placeIn, scoreAt, rowOf, listOfStreet, streetPlace, value}
+use Rattle.survey.specs.Rows.{rankedPart, placeAt, placeIn, scoreAt, rowOf, listOfStreet, streetPlace, score, value}
 use Rattle.survey.specs.Accepted.{SoundScores, Accepted}
+use Rattle.survey.proofs.LeastWeights.{weight-bound}
 
 -- a site that does not stand in a list has no place there
 pub place-none : (L : List ℕ) (a : ℕ) → has a L ≡ false → placeIn L a ≡ 0
@@ -131,11 +132,17 @@ ranked-sites (b ∷ row) =
     cond-at (λ (L : List ℕ). has 0 L ≡ false) (eqb b 0) (λ e. refl)
     (λ e. or-neither (eqb 0 b) (has 0 (rankedPart row)) (ne-eqb 0 b (λ z. eqb-false b 0 e (sym z))) (ranked-sites row))
 
--- no value is above the top score
-pub valued-bound : {t : Town} → Accepted t → (s a : ℕ) → value t s a ≤ topScore
-valued-bound {t} ok s a = score-bound (t .scores) (streetPlace t s a) (ok .sound-scores)
+-- no score is above the top score, and no value above the greatest weight times that
+pub scored-bound : {t : Town} → Accepted t → (s a : ℕ) → score t s a ≤ topScore
+scored-bound {t} ok s a = score-bound (t .scores) (streetPlace t s a) (ok .sound-scores)
+
+pub valued-bound : {t : Town} → Accepted t → (s a : ℕ) → value t s a ≤ mostValue
+valued-bound {t} ok s a = mul-le-mul (weight-bound (t .weights) (ok .sound-weights) s) (scored-bound ok s a)
 
 -- the site 0, that is none, has the value 0
-pub valued-zero : (t : Town) (s : ℕ) → value t s 0 ≡ 0
-valued-zero t s =
+pub scored-zero : (t : Town) (s : ℕ) → score t s 0 ≡ 0
+scored-zero t s =
     ap (λ (x : ℕ). scoreAt (t .scores) x) (place-none (listOfStreet t s) 0 (ranked-sites (rowOf t s))) ∙ score-none (t .scores)
+
+pub valued-zero : (t : Town) (s : ℕ) → value t s 0 ≡ 0
+valued-zero t s = ap (λ (x : ℕ). at (t .weights) s * x) (scored-zero t s) ∙ mul-zero (at (t .weights) s)

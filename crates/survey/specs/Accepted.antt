@@ -5,7 +5,7 @@ use mathlib.Core.Path.{_≡_}
 use mathlib.Core.Bool.{false}
 use mathlib.Core.List.{List}
 use lib.ListN.{length, take}
-use Rattle.counting.specs.Bounds.{mostStreets, mostSites, topScore}
+use Rattle.counting.specs.Bounds.{mostStreets, mostSites, topScore, topWeight}
 use Rattle.counting.specs.Lists.{at, has}
 use Rattle.survey.specs.Town.{Town}
 use Rattle.survey.specs.Rows.{rowOf}
@@ -21,6 +21,11 @@ pub record SoundScores (scores : List ℕ) : Type 0 where
   pub top : (i : ℕ) → i < length scores → at scores i ≤ topScore
   pub falling : (i : ℕ) → 0 < i → i < length scores → at scores i ≤ at scores (i - 1)
 
+-- of the weights: each is one of 1 to the greatest
+pub record SoundWeights (weights : List ℕ) : Type 0 where
+  pub some : (s : ℕ) → s < length weights → 1 ≤ at weights s
+  pub top : (s : ℕ) → s < length weights → at weights s ≤ topWeight
+
 -- of the town
 pub record Accepted (t : Town) : Type 0 where
   pub some-street : 1 ≤ t .n
@@ -28,6 +33,8 @@ pub record Accepted (t : Town) : Type 0 where
   pub some-site : 1 ≤ t .m
   pub few-sites : t .m ≤ mostSites
   pub scores-fit : length (t .scores) ≡ t .m
+  pub weights-fit : length (t .weights) ≡ t .n
   pub rows-fit : length (t .rows) ≡ t .n * t .m
   pub sound-scores : SoundScores (t .scores)
+  pub sound-weights : SoundWeights (t .weights)
   pub sound-rows : (s : ℕ) → s < t .n → SoundRow (t .m) (rowOf t s)

@@ -1,11 +1,11 @@
--- What is turned down in a survey, by document 01's numbers. Each definition gives the first number that applies, and 0 where none does.
+-- What is turned down in a survey, by the numbers of documents 01 and 02. Each definition gives the first number that applies, and 0 where none does.
 -- Assumes nothing.
 use Prim.Native.Nat.{ℕ, _*_, _-_}
 use mathlib.Core.Bool.{Bool, _&&_}
 use mathlib.Core.List.{List}
 use lib.Dec.{ltb, eqb}
 use lib.ListN.{length, take}
-use Rattle.counting.specs.Bounds.{mostStreets, mostSites, topScore}
+use Rattle.counting.specs.Bounds.{mostStreets, mostSites, topScore, topWeight}
 use Rattle.counting.specs.Words.{_when_, _unless_, _orElse_, firstOf, outside}
 use Rattle.counting.specs.Lists.{at, has}
 use Rattle.survey.specs.Town.{Town}
@@ -45,6 +45,14 @@ scoreRefusal scores i =
 abbrev pub scoresRefusal : List ℕ → ℕ
 scoresRefusal scores = firstOf (length scores) (scoreRefusal scores)
 
+-- 24: a weight outside 1 to 99
+abbrev pub weightRefusal : ℕ → ℕ
+weightRefusal weight = 24 when outside weight 1 topWeight
+
+-- the weights, by street
+abbrev pub weightsRefusal : List ℕ → ℕ
+weightsRefusal weights = firstOf (length weights) (λ i. weightRefusal (at weights i))
+
 -- 9, 10, 11: a byte of a row, where a zero and where the same byte stands before it
 abbrev pub siteRefusal : ℕ → Bool → Bool → ℕ → ℕ
 siteRefusal m ended again b =
@@ -68,7 +76,11 @@ streetRefusal m rows i = rowRefusal m (rowAt m rows i)
 abbrev pub rowsRefusal : ℕ → ℕ → List ℕ → ℕ
 rowsRefusal n m rows = firstOf n (streetRefusal m rows)
 
--- a survey with k sites to be chosen, in document 01's order; `own` is what a call tries besides between 3 and 8: 4, 5, and 6 for its other buffers
+-- what the survey holds: the scores, the weights, then the rows
+abbrev pub heldRefusal : Town → ℕ
+heldRefusal t = scoresRefusal (t .scores) orElse weightsRefusal (t .weights) orElse rowsRefusal (t .n) (t .m) (t .rows)
+
+-- a survey with k sites to be chosen, in the papers' order; `own` is what a call tries besides between 3 and 8: 4, 5, and 6 for its other buffers
 abbrev pub surveyRefusal : Town → ℕ → ℕ → ℕ
 surveyRefusal t k own =
     streetsRefusal (t .n) orElse
@@ -76,6 +88,6 @@ surveyRefusal t k own =
     chosenRefusal k (t .m) orElse
     own orElse
     lengthRefusal (length (t .scores)) (t .m) orElse
+    lengthRefusal (length (t .weights)) (t .n) orElse
     lengthRefusal (length (t .rows)) (t .n * t .m) orElse
-    scoresRefusal (t .scores) orElse
-    rowsRefusal (t .n) (t .m) (t .rows)
+    heldRefusal t

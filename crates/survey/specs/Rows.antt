@@ -1,10 +1,12 @@
--- The survey, as document 01 has it under 'The survey': rows, places, scores, and the value of a site for a street.
+-- The survey, as document 01 has it under 'The survey': rows, places, scores and weights, and the value of a site for a street.
 -- Assumes nothing.
-use Prim.Native.Nat.{ℕ, zero, suc, _+_, _-_, _*_, min}
+use Prim.Native.Nat.{ℕ, zero, suc, _+_, _-_, _*_, _<_, min}
+use mathlib.Core.Path.{_≡_}
 use mathlib.Core.Bool.{cond}
 use mathlib.Core.List.{List, [], _∷_}
 use lib.Dec.{eqb}
 use lib.ListN.{length, take, drop}
+use Rattle.counting.specs.Bounds.{topWeight}
 use Rattle.counting.specs.Words.{_when_, _unless_, firstOf}
 use Rattle.counting.specs.Lists.{at}
 use Rattle.survey.specs.Town.{Town}
@@ -38,10 +40,23 @@ placeOf row site = placeIn (rankedPart row) site
 abbrev pub scoreOf : List ℕ → List ℕ → ℕ → ℕ
 scoreOf scores row site = scoreAt scores (placeOf row site)
 
+-- the counted score that a row gives a site: its score times the street's household weight
+abbrev pub countedOf : ℕ → List ℕ → List ℕ → ℕ → ℕ
+countedOf weight scores row site = weight * scoreOf scores row site
+
 -- the length of the shortest of the first n lists; no list is longer than m
 abbrev pub shortestOf : ℕ → ℕ → List ℕ → ℕ
 shortestOf zero m rows = m
 shortestOf (suc n) m rows = min (shortestOf n m rows) (length (rankedPart (rowAt m rows n)))
+
+-- the least of the first n weights; no weight is above the greatest
+abbrev pub leastOf : ℕ → List ℕ → ℕ
+leastOf zero weights = topWeight
+leastOf (suc n) weights = min (leastOf n weights) (at weights n)
+
+-- all streets have the same weight, that of the first
+abbrev pub Even : List ℕ → Type 0
+Even weights = (s : ℕ) → s < length weights → at weights s ≡ at weights 0
 
 -- ---- of a town
 -- the row of a street
@@ -56,10 +71,18 @@ listOfStreet t street = rankedPart (rowOf t street)
 abbrev pub streetPlace : Town → ℕ → ℕ → ℕ
 streetPlace t street site = placeOf (rowOf t street) site
 
--- the value `v street site` of the theory: the score that the street gives the site
+-- the score that a street gives a site, without its weight
+abbrev pub score : Town → ℕ → ℕ → ℕ
+score t street site = scoreOf (t .scores) (rowOf t street) site
+
+-- the value `v street site` of the theory: the counted score that the street gives the site
 abbrev pub value : Town → ℕ → ℕ → ℕ
-value t street site = scoreOf (t .scores) (rowOf t street) site
+value t street site = countedOf (at (t .weights) street) (t .scores) (rowOf t street) site
 
 -- the length of the shortest list
 abbrev pub shortest : Town → ℕ
 shortest t = shortestOf (t .n) (t .m) (t .rows)
+
+-- the smallest weight
+abbrev pub leastWeight : Town → ℕ
+leastWeight t = leastOf (t .n) (t .weights)

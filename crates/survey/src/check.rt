@@ -7,7 +7,8 @@ ghost use lib.ListN.{length};
 ghost use Rattle.counting.specs.Bounds.{mostSites};
 ghost use Rattle.survey.specs.Bits.{SiteBits};
 ghost use Rattle.survey.specs.Town.{town};
-ghost use Rattle.survey.specs.Refusals.{scoreRefusal, scoresRefusal, siteRefusal, rowRefusal, streetRefusal, rowsRefusal, surveyRefusal};
+ghost use Rattle.survey.specs.Refusals.{scoreRefusal, scoresRefusal, weightRefusal, weightsRefusal};
+ghost use Rattle.survey.specs.Refusals.{siteRefusal, rowRefusal, streetRefusal, rowsRefusal, heldRefusal, surveyRefusal};
 
 // 8: one score.
 fn score_refusal(scores: &[u16], i: usize) -> u8
@@ -32,6 +33,32 @@ pub fn scores_refusal(scores: &[u16]) -> u8
 {
     for i in 0..scores.len() {
         let r = score_refusal(scores, i);
+        if r != 0 {
+            return r;
+        }
+    }
+    0
+}
+
+// 24: one weight.
+pub fn weight_refusal(weight: u8) -> u8
+    ensures { λ r. ⌜ r ≡ weightRefusal weight ⌝ }
+{
+    if weight < 1 {
+        return 24;
+    }
+    if Survey::TOP_WEIGHT < weight {
+        return 24;
+    }
+    0
+}
+
+// The weights, by street.
+pub fn weights_refusal(weights: &[u8]) -> u8
+    ensures { λ r. ⌜ r ≡ weightsRefusal (now (weights .entry)) ⌝ }
+{
+    for i in 0..weights.len() {
+        let r = weight_refusal(weights[i]);
         if r != 0 {
             return r;
         }
@@ -107,9 +134,34 @@ pub fn rows_refusal(n: usize, m: usize, rows: &[u8]) -> u8
     0
 }
 
+// What the survey holds: the scores, the weights, then the rows.
+fn held_refusal(n: usize, m: usize, scores: &[u16], weights: &[u8], rows: &[u8]) -> u8
+    requires { ⌜ n * m ≤ length (now rows) ⌝ }
+    requires { ⌜ m ≤ mostSites ⌝ }
+    ensures { λ r. ⌜ r ≡ heldRefusal (town n m scores weights rows) ⌝ }
+{
+    let r = scores_refusal(scores);
+    if r != 0 {
+        return r;
+    }
+    let r = weights_refusal(weights);
+    if r != 0 {
+        return r;
+    }
+    rows_refusal(n, m, rows)
+}
+
 // A survey with k sites to be chosen; `own` is what the call tries besides between 3 and 8.
-pub fn survey_refusal(n: usize, m: usize, k: usize, own: u8, scores: &[u16], rows: &[u8]) -> u8
-    ensures { λ r. ⌜ r ≡ surveyRefusal (town n m scores rows) k own ⌝ }
+pub fn survey_refusal(
+    n: usize,
+    m: usize,
+    k: usize,
+    own: u8,
+    scores: &[u16],
+    weights: &[u8],
+    rows: &[u8],
+) -> u8
+    ensures { λ r. ⌜ r ≡ surveyRefusal (town n m scores weights rows) k own ⌝ }
 {
     if n < 1 {
         return 1;
@@ -135,12 +187,11 @@ pub fn survey_refusal(n: usize, m: usize, k: usize, own: u8, scores: &[u16], row
     if scores.len() != m {
         return 6;
     }
+    if weights.len() != n {
+        return 6;
+    }
     if rows.len() != n * m {
         return 6;
     }
-    let r = scores_refusal(scores);
-    if r != 0 {
-        return r;
-    }
-    rows_refusal(n, m, rows)
+    held_refusal(n, m, scores, weights, rows)
 }

@@ -1,11 +1,12 @@
 // The survey: its bounds, its rows and scores, and what is turned down in it.
 ghost use mathlib.Core.Path.{_≡_};
 ghost use lib.ListN.{replicate};
-ghost use Rattle.counting.specs.Bounds.{mostStreets, mostSites, topScore, mostRows};
+ghost use Rattle.counting.specs.Bounds.{mostStreets, mostSites, topScore, topWeight, mostRows};
 
 pub mod check;
 mod quick;
 pub mod rows;
+pub mod weights;
 
 // A survey as a program holds it: the sizes and the kind of plan, then the score buffer and the row buffer, of which the first m numbers
 // and the first n times m bytes count.
@@ -19,12 +20,14 @@ pub struct Survey {
 }
 
 impl Survey {
-    // the greatest numbers of streets and of sites, and the greatest score
+    // the greatest numbers of streets and of sites, the greatest score, and the greatest weight
     pub const STREETS: usize = counting::STREETS;
 
     pub const SITES: usize = counting::SITES;
 
     pub const TOP_SCORE: u16 = 1000;
+
+    pub const TOP_WEIGHT: u8 = 99;
     // the bytes of the longest rows
     pub const ROWS: usize = Survey::STREETS * Survey::SITES;
     // the bytes of the longest file: the town, a score for each site, a record with a full list for each street, and the end
@@ -34,7 +37,7 @@ impl Survey {
     pub fn empty() -> Self
         ensures sizes { λ r. ⌜ (r .n ≡ 0) × (r .m ≡ 0) × (r .k ≡ 0) × (r .kind ≡ 0) ⌝ }
         ensures buffers { λ r. ⌜ (r .scores ≡ replicate mostSites 0) × (r .rows ≡ replicate mostRows 0) ⌝ }
-        ensures bounds { λ _. do ⌜ ((← ⟦Survey::STREETS⟧ .entry) ≡ mostStreets) × ((← ⟦Survey::SITES⟧ .entry) ≡ mostSites) × ((← ⟦Survey::TOP_SCORE⟧ .entry) ≡ topScore) ⌝ }
+        ensures bounds { λ _. do ⌜ ((← ⟦Survey::STREETS⟧ .entry) ≡ mostStreets) × ((← ⟦Survey::SITES⟧ .entry) ≡ mostSites) × ((← ⟦Survey::TOP_SCORE⟧ .entry) ≡ topScore) × ((← ⟦Survey::TOP_WEIGHT⟧ .entry) ≡ topWeight) ⌝ }
     {
         Self {
             n: 0,

@@ -1,6 +1,6 @@
 // One street's row: its ranked part, and the place and the score that it gives a site.
 ghost use mathlib.Core.Path.{_≡_};
-ghost use Rattle.survey.specs.Rows.{rankedPart, placeIn, placeOf, scoreAt, scoreOf};
+ghost use Rattle.survey.specs.Rows.{rankedPart, placeIn, placeOf, scoreAt, scoreOf, countedOf};
 
 // The ranked part of a row: the leading part of the caller's own slice, up to the first zero. It begins where the row begins, so it is no copy.
 pub fn ranked(row: &[u8]) -> &[u8]
@@ -52,4 +52,11 @@ pub fn score(scores: &[u16], row: &[u8], site: u8) -> u16
     ensures { λ r. ⌜ r ≡ scoreOf (now (scores .entry)) (now (row .entry)) site ⌝ }
 {
     score_at(scores, place(row, site))
+}
+
+// The counted score that a row gives a site: its score times the street's household weight.
+pub fn counted(weight: u8, scores: &[u16], row: &[u8], site: u8) -> u32
+    ensures { λ r. ⌜ r ≡ countedOf weight (now (scores .entry)) (now (row .entry)) site ⌝ }
+{
+    weight as u32 * score(scores, row, site) as u32
 }

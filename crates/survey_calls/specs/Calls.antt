@@ -6,7 +6,7 @@ use mathlib.Core.Bool.{Bool, true, false}
 use mathlib.Core.List.{List}
 use denote.Ref.{RefT}
 use lib.Dec.{eqb}
-use Rattle.survey.specs.Rows.{rankedPart, scoreOf}
+use Rattle.survey.specs.Rows.{rankedPart, scoreOf, countedOf}
 use Rattle.refusals.specs.Inputs.{SurveyInput, RowInput}
 use Rattle.refusals.specs.Refusals.{checkRefusal, rowScoreRefusal}
 use Rattle.call_answers.specs.declared.Answer.{Answer}
@@ -40,7 +40,9 @@ pub record RankedPart (row part : RefT (List ℕ)) : Type 0 where
   -- and it stands where the row begins: no copy, and no other stretch of the same bytes
   pub place : part .ptr ≡ row .ptr
 
--- score of one row for one site
+-- counted score of one row for one site
 pub record RowScored (i : RowInput) (r : Answer) : Type 0 where
-  -- the first number that applies, or the score
-  pub answer : Told r (rowScoreRefusal i) (scoreOf (i .scores) (i .row) (i .site))
+  -- the first number that applies, or the score times the weight
+  pub answer : Told r (rowScoreRefusal i) (countedOf (i .weight) (i .scores) (i .row) (i .site))
+  -- with the weight 1 it is the score
+  pub plain : i .weight ≡ 1 → Told r (rowScoreRefusal i) (scoreOf (i .scores) (i .row) (i .site))

@@ -1,6 +1,6 @@
 -- A written file is read back: an accepted survey with its kind comes out of its file's bytes as it went in.
 -- Assumes nothing.
-use mathlib.Core.Path.{_≡_, refl, ap, _∙_}
+use mathlib.Core.Path.{_≡_, refl, sym, ap, _∙_}
 use mathlib.Core.List.{List, _++_, append-assoc}
 use Prim.Native.Nat.{ℕ, zero, suc, _+_, _-_, _*_}
 use native.Mathlib.Nat.{suc-ne-zero}
@@ -11,9 +11,9 @@ use Rattle.counting.specs.Words.{_orElse_}
 use Rattle.counting.specs.Lists.{at}
 use Rattle.counting.specs.Buffers.{joined}
 use Rattle.counting.proofs.Refusals.{or-zero}
-use Rattle.survey.specs.Town.{Town, townOf}
+use Rattle.survey.specs.Town.{Town, townOf, plainTown}
 use Rattle.survey.specs.Rows.{rowOf, listOfStreet}
-use Rattle.survey.specs.Refusals.{streetsRefusal, sitesRefusal, chosenRefusal, kindRefusal, scoresRefusal, rowsRefusal, lengthRefusal, surveyRefusal}
+use Rattle.survey.specs.Refusals.{streetsRefusal, sitesRefusal, chosenRefusal, kindRefusal, scoresRefusal, lengthRefusal, surveyRefusal}
 use Rattle.survey.specs.Accepted.{Accepted}
 use Rattle.survey.proofs.Sound.{accepted}
 use Rattle.survey_file.specs.Encode.{townMark, scoresMark, endMark, word, townBytes, scoresBytes, streetBytes, encode}
@@ -31,9 +31,9 @@ given-none : (x : ℕ) (given : Decoded) → x ≡ 0 → givenUnless x given ≡
 given-none zero given e = refl
 given-none (suc x) given e = absurd (suc-ne-zero x e)
 
--- towns are the same where the numbers of streets, the scores and the rows are
+-- towns without weights are the same where the numbers of streets, the scores and the rows are
 town-same : (n n′ m : ℕ) (scores scores′ rows rows′ : List ℕ) → n ≡ n′ → scores ≡ scores′ → rows ≡ rows′
-    → townOf n m scores rows ≡ townOf n′ m scores′ rows′
+    → plainTown n m scores rows ≡ plainTown n′ m scores′ rows′
 town-same n n′ m scores scores′ rows rows′ a b c = rw (a, b, c) refl
 
 module _ (t : Town) (k kind : ℕ) where
@@ -86,8 +86,9 @@ module _ (t : Town) (k kind : ℕ) where
         let (c, e₃) = or-zero (chosenRefusal k (t .m)) _ e₂ in
         let (d, e₄) = or-zero (kindRefusal kind) _ e₃ in
         let (f, e₅) = or-zero (lengthRefusal (length (t .scores)) (t .m)) _ e₄ in
-        let (g, e₆) = or-zero (lengthRefusal (length (t .rows)) (t .n * t .m)) _ e₅ in
-        let (h, e₇) = or-zero (scoresRefusal (t .scores)) (rowsRefusal (t .n) (t .m) (t .rows)) e₆ in
+        let (w, e₆) = or-zero (lengthRefusal (length (t .weights)) (t .n)) _ e₅ in
+        let (g, e₇) = or-zero (lengthRefusal (length (t .rows)) (t .n * t .m)) _ e₆ in
+        let (h, e₈) = or-zero (scoresRefusal (t .scores)) _ e₇ in
         (a, b, c, d, h)
 
     -- TN is accepted
@@ -131,14 +132,16 @@ module _ (t : Town) (k kind : ℕ) where
         ∙ street-row ok i l)
         ∙ rows-joined (t .n) (t .m) (t .rows) (ok .rows-fit)
 
-    -- the town comes back
-    town-read : townIn file ≡ t
+    -- a town whose streets have the weight 1 comes back
+    town-read : t .weights ≡ replicate (t .n) 1 → townIn file ≡ t
     unfolding encode
-    town-read = town-same (streetsIn file) (t .n) (t .m) _ (t .scores) _ (t .rows) streets-back scores-read rows-read
+    town-read plain =
+        town-same (streetsIn file) (t .n) (t .m) _ (t .scores) _ (t .rows) streets-back scores-read rows-read
+        ∙ ap (λ (weights : List ℕ). townOf (t .n) (t .m) (t .scores) weights (t .rows)) (sym plain)
 
     -- what is read from a written file is what was written
-    pub decode-encode : decode (encode t k kind) ≡ Given t k kind
+    pub decode-encode : t .weights ≡ replicate (t .n) 1 → decode (encode t k kind) ≡ Given t k kind
     unfolding encode decode
-    decode-encode =
+    decode-encode plain =
         given-none (fileRefusal file) (Given (townIn file) (chosenIn file) (kindIn file)) encode-accepted
-        ∙ ap (λ (x : Town). Given x k kind) town-read
+        ∙ ap (λ (x : Town). Given x k kind) (town-read plain)

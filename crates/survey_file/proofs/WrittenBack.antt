@@ -12,6 +12,7 @@ use Rattle.counting.proofs.Sums.{listOf-length}
 use Rattle.survey.specs.Rows.{rankedPart, rowOf, listOfStreet}
 use Rattle.survey.specs.Refusals.{kindRefusal, rowRefusal, streetRefusal, rowsRefusal, surveyRefusal}
 use Rattle.survey.specs.Accepted.{Accepted}
+use Rattle.survey.proofs.LeastWeights.{ones-accepted}
 use Rattle.survey.proofs.Sound.{accepted}
 use Rattle.survey_file.specs.Encode.{endMark, word, townBytes, scoresBytes, listBytes, streetBytes, encode}
 use Rattle.survey_file.specs.Decode.{wordAt, scoresIn, listIn, past, streetsIn, sitesIn, chosenIn, kindIn, scoresPart, streetsPart, fileRefusal}
@@ -104,7 +105,9 @@ module _ (file : List ℕ) (e : fileRefusal file ≡ 0) where
       (both _ _ (ok .town .chosen)
       (both _ _ (ok .town .kind)
       (both _ _ (as-due 6 (length scores) m table)
-      (both _ _ (as-due 6 (length (rowsIn file)) (n * m) sizes) (both _ _ (ok .scores .scores) rows-accepted))))))
+      (both _ _ (as-due 6 (length (replicate n 1)) n (length-replicate n 1))
+      (both _ _ (as-due 6 (length (rowsIn file)) (n * m) sizes)
+      (both _ _ (ok .scores .scores) (both _ _ (ones-accepted n) rows-accepted))))))))
 
   -- so what holds of an accepted survey holds of its town
   pub town-accepted : Accepted (townIn file)

@@ -8,7 +8,7 @@ use lib.ListN.{length, take, drop, replicate}
 use Rattle.counting.specs.Words.{_when_, _unless_, _orElse_, firstOf, outside}
 use Rattle.counting.specs.Lists.{at, has}
 use Rattle.counting.specs.Buffers.{joined, listOf}
-use Rattle.survey.specs.Town.{Town, townOf}
+use Rattle.survey.specs.Town.{Town, plainTown}
 use Rattle.survey.specs.Refusals.{streetsRefusal, sitesRefusal, chosenRefusal, kindRefusal, scoresRefusal}
 use Rattle.survey_file.specs.Encode.{townMark, scoresMark, streetMark, endMark}
 
@@ -114,9 +114,9 @@ rowFrom m rest = listIn rest ++ replicate (m - length (listIn rest)) 0
 abbrev pub rowsIn : List ℕ → List ℕ
 rowsIn file = joined (streetsIn file) (λ i. rowFrom (sitesIn file) (past (streetsPart file) i))
 
--- the town that a file holds
+-- the town that a file holds: each street has the weight 1
 abbrev pub townIn : List ℕ → Town
-townIn file = townOf (streetsIn file) (sitesIn file) (scoresIn (sitesIn file) (scoresPart file)) (rowsIn file)
+townIn file = plainTown (streetsIn file) (sitesIn file) (scoresIn (sitesIn file) (scoresPart file)) (rowsIn file)
 
 -- what reading gives: a town with the number of sites to choose and the kind of plan, or a refusal's number
 pub data Decoded : Type 0 where

@@ -1,3 +1,4 @@
 pub mod Filling
 pub mod Tabled
 pub mod Keyed
+pub mod Weighed

@@ -3,7 +3,7 @@
 use mathlib.Core.Path.{_≡_, sym, ap, _∙_}
 use mathlib.Core.List.{List, _++_}
 use Prim.Native.Nat.{ℕ, _+_, _*_, _/_, _%_, _≤_, _<_}
-use native.Mathlib.Nat.{div-add-mod', mod-lt, div-lt-iff-lt-mul}
+use native.Mathlib.Nat.{div-add-mod', mod-lt, div-lt-iff-lt-mul, mul-zero}
 use native.Mathlib.Omega.{arith}
 use native.Mathlib.Decide.{decLt}
 use lib.ListN.{length, take, replicate}
@@ -13,9 +13,9 @@ use Rattle.counting.proofs.Equations.{along}
 use Rattle.counting.proofs.Sums.{at-past}
 use Rattle.counting.proofs.Parts.{front-length, front-blank, back-is, back-room, back-size}
 use Rattle.survey.specs.Town.{Town}
-use Rattle.survey.specs.Rows.{scoreAt, value}
+use Rattle.survey.specs.Rows.{scoreAt, score, value}
 use Rattle.survey.specs.Accepted.{Accepted}
-use Rattle.survey.proofs.Places.{score-none, valued-bound}
+use Rattle.survey.proofs.Places.{score-none, scored-bound, valued-bound}
 use Rattle.tables.specs.Entries.{Layout}
 use Rattle.tables.specs.Tables.{Blank, Tabled, ValueTable, StreetTable, SiteTable, valueIn, siteValue}
 use Rattle.tables.proofs.Filling.{table-small, Filled, filled-none}
@@ -59,11 +59,14 @@ module _ {f : ℕ → ℕ → ℕ} {height width : ℕ} {table : List ℕ} (rest
       (record { few-streets = few; few-sites = few-sites; size = h .size; small = λ i. small most some low i (decLt i (height * width)) })
 
 -- ---- the values of a town
--- a blank table holds the scores of no street
-pub scores-start : {index : ℕ → ℕ → ℕ} {n m height width : ℕ} {values : List ℕ} (scores rows : List ℕ) → Layout index n m (height * width)
-    → height * width ≤ mostEntries → Blank height width values → Filled (λ s. scoreAt scores) index n m rows values 0
-scores-start scores rows y small b =
-    filled-none (rw (b .size) y) (omega (arith, b .size)) (λ i l t k. b .none i ∙ sym (score-none scores))
+-- a blank table holds the entries of no street, where no place has the entry 0
+pub blank-start : {index : ℕ → ℕ → ℕ} {n m height width : ℕ} {values : List ℕ} (f : ℕ → ℕ → ℕ) (rows : List ℕ) → ((s : ℕ) → f s 0 ≡ 0)
+    → Layout index n m (height * width) → height * width ≤ mostEntries → Blank height width values → Filled f index n m rows values 0
+blank-start f rows none y small b = filled-none (rw (b .size) y) (omega (arith, b .size)) (λ i l t k. b .none i ∙ sym (none t))
+
+-- scores are so, with weights or without
+pub weighed-none : (weights scores : List ℕ) (s : ℕ) → at weights s * scoreAt scores 0 ≡ 0
+weighed-none weights scores s = ap (λ (x : ℕ). at weights s * x) (score-none scores) ∙ mul-zero (at weights s)
 
 module _ {t : Town} (ok : Accepted t) where
   -- the table by street fits its array, and an engine may use it once it is filled
@@ -82,15 +85,15 @@ module _ {t : Town} (ok : Accepted t) where
       → (s a : ℕ) → s < t .n → a ≤ t .m → valueIn (take (t .n * (t .m + 1)) (table ++ rest)) (t .m) s a ≡ value t s a
   street-same rest h s a l u = part-same rest h s a l (omega arith)
 
-  -- the same by site
+  -- the same by site, with scores
   pub site-fits : (t .m + 1) * t .n ≤ mostEntries
   site-fits = table-small (t .n) (t .m) (ok .few-streets) (ok .few-sites)
 
-  pub site-ready : {table : List ℕ} (rest : List ℕ) → Tabled (λ a s. value t s a) (t .m + 1) (t .n) table
+  pub site-ready : {table : List ℕ} (rest : List ℕ) → Tabled (λ a s. score t s a) (t .m + 1) (t .n) table
       → SiteTable (t .n) (t .m) (take ((t .m + 1) * t .n) (table ++ rest))
   site-ready rest h =
-      part-ready rest h topScore (t .n) (t .m) (ok .few-streets) (ok .few-sites) (ok .some-street) (λ a s. valued-bound ok s a)
+      part-ready rest h topScore (t .n) (t .m) (ok .few-streets) (ok .few-sites) (ok .some-street) (λ a s. scored-bound ok s a)
 
-  pub site-same : {table : List ℕ} (rest : List ℕ) → Tabled (λ a s. value t s a) (t .m + 1) (t .n) table
-      → (s a : ℕ) → s < t .n → a ≤ t .m → siteValue (take ((t .m + 1) * t .n) (table ++ rest)) (t .n) s a ≡ value t s a
+  pub site-same : {table : List ℕ} (rest : List ℕ) → Tabled (λ a s. score t s a) (t .m + 1) (t .n) table
+      → (s a : ℕ) → s < t .n → a ≤ t .m → siteValue (take ((t .m + 1) * t .n) (table ++ rest)) (t .n) s a ≡ score t s a
   site-same rest h s a l u = part-same rest h a s (omega arith) l

@@ -1,12 +1,12 @@
-// The table of a survey's values by site, filled once from scores and rows: a row of n values for each of the sites 0, 1, .., m.
-// It is for an engine that sums a site's values over the streets: these stand side by side.
+// The table of a survey's scores by site, filled once from scores and rows: a row of n scores for each of the sites 0, 1, .., m.
+// It is for an engine that sums over the streets what they give a site, each by its weight: a site's scores stand side by side.
 ghost use mathlib.Core.Path.{_≡_};
 ghost use Prim.Native.Nat.{_+_};
 ghost use lib.ListN.{length};
-ghost use Rattle.survey.specs.Town.{townOf, town};
-ghost use Rattle.survey.specs.Rows.{scoreAt, value};
-ghost use Rattle.survey.specs.Accepted.{SoundRow, Accepted};
-ghost use Rattle.tables.specs.Entries.{bySite, Room, Unread, Entered};
+ghost use Rattle.survey.specs.Town.{was};
+ghost use Rattle.survey.specs.Rows.{rowAt, scoreAt, scoreOf};
+ghost use Rattle.survey.specs.Accepted.{SoundRow};
+ghost use Rattle.tables.specs.Entries.{Ranked, bySite, Room, Unread, Entered};
 ghost use Rattle.tables.specs.Tables.{Blank, Tabled};
 
 // The street s gets the score at the place of each site that it ranked. Any other site keeps its 0, so the row is read once.
@@ -27,9 +27,9 @@ fn fill_street(n: usize, s: usize, scores: &[u16], row: &[u8], values: &mut [u16
 
 // The whole table: each street's row of m bytes fills the street's column.
 pub fn fill_values(n: usize, m: usize, scores: &[u16], rows: &[u8], values: &mut [u16])
-    requires { ⌜ Accepted (townOf n m (now scores) (now rows)) ⌝ }
+    requires { ⌜ Ranked n m (now rows) × (length (now scores) ≡ m) ⌝ }
     requires { ⌜ Blank (m + 1) n (now values) ⌝ }
-    ensures { λ _. ⌜ Tabled (λ a s. value (town n m scores rows) s a) (m + 1) n (now (values .exit)) ⌝ }
+    ensures { λ _. ⌜ Tabled (λ a s. scoreOf (was scores) (rowAt m (was rows) s) a) (m + 1) n (now (values .exit)) ⌝ }
 {
     for s in 0..n {
         let low = s * m;

@@ -1,4 +1,5 @@
 pub mod Lines
 pub mod Towns
 pub mod Loaded
+pub mod Weighted
 pub mod Table

@@ -9,8 +9,8 @@ use lib.ListN.{length, replicate}
 use Rattle.counting.specs.Words.{_when_}
 use Rattle.counting.specs.Buffers.{after}
 use Rattle.balanced_plan.specs.Floor.{depth}
-use Rattle.survey.specs.Town.{Town, townOf}
-use Rattle.survey.specs.Rows.{scoreOf}
+use Rattle.survey.specs.Town.{Town, townOf, plainTown}
+use Rattle.survey.specs.Rows.{countedOf}
 use Rattle.survey_file.specs.Encode.{encode}
 use Rattle.survey_file.specs.Decode.{fileRefusal, townIn, chosenIn, kindIn}
 use Rattle.loads.specs.Loads.{Loads, loadsOf, mostLoad}
@@ -19,14 +19,19 @@ use Rattle.refusals.specs.Refusals.{checkRefusal, rowScoreRefusal, listTotalRef
 use Rattle.refusals.specs.Refusals.{floorRefusal, handRefusal, writeRefusal}
 use Rattle.plans.specs.Plans.{listTotal, freeDivision, freeSites, planTotal, balancedDivision, balancedRounds, Plan, planOfKind, planFloor}
 
--- a town with the number of sites to choose: n, m, K, scores, rows
+-- a town with the number of sites to choose: n, m, K, scores, weights, rows
+abbrev pub weighed : ℕ → ℕ → ℕ → List ℕ → List ℕ → List ℕ → SurveyInput
+weighed n m k scores weights rows = surveyOf (townOf n m scores weights rows) k
+
+-- the same where every street has the weight 1: n, m, K, scores, rows
 abbrev pub survey : ℕ → ℕ → ℕ → List ℕ → List ℕ → SurveyInput
-survey n m k scores rows = surveyOf (townOf n m scores rows) k
+survey n m k scores rows = surveyOf (plainTown n m scores rows) k
 
 -- the first number after a survey or its like is the refusal's; then come the total and the buffers afterwards
 pub data Line : Type 0 where
   Check : SurveyInput → ℕ → Line
-  RowScore : ℕ → List ℕ → List ℕ → ℕ → ℕ → ℕ → Line
+  -- one row: m, scores, weight, row, site
+  WeighedRow : ℕ → List ℕ → ℕ → List ℕ → ℕ → ℕ → ℕ → Line
   ListTotal : SurveyInput → List ℕ → ℕ → ℕ → Line
   FreeDivision : SurveyInput → List ℕ → ℕ → ℕ → List ℕ → Line
   BalancedDivision : SurveyInput → List ℕ → ℕ → ℕ → List ℕ → Line
@@ -64,6 +69,10 @@ unloaded t = loadsOf (replicate (t .n) 0) (replicate (t .n) 0) (replicate (t .m)
 abbrev pub Hand : ℕ → SurveyInput → List ℕ → ℕ → ℕ → Line
 Hand kind i division claimed x = Loaded kind i division claimed (unloaded (i .town)) x
 
+-- one row of a street whose weight is 1: m, scores, row, site
+abbrev pub RowScore : ℕ → List ℕ → List ℕ → ℕ → ℕ → ℕ → Line
+RowScore m scores = WeighedRow m scores 1
+
 -- the two kinds
 abbrev pub FreePlan : SurveyInput → ℕ → ℕ → List ℕ → List ℕ → Line
 FreePlan = OfKind 0
@@ -94,7 +103,8 @@ places m k i (p ∷ rest) = Number (depth m k i) p ∷ places m k (suc i) rest
 
 abbrev pub facts : Line → List Fact
 facts (Check i x) = Number (checkRefusal i) x ∷ []
-facts (RowScore m scores row site x score) = reported (rowScoreRefusal (rowInputOf m scores row site)) x (scoreOf scores row site) score []
+facts (WeighedRow m scores weight row site x score) =
+    reported (rowScoreRefusal (rowInputOf m scores weight row site)) x (countedOf weight scores row site) score []
 facts (ListTotal i sites x total) = reported (listTotalRefusal (listInputOf (i .town) sites)) x (listTotal (i .town) sites) total []
 facts (FreeDivision i sites x total division) =
     let old : List ℕ = blank (i .town .n) in

@@ -16,33 +16,33 @@ use Rattle.balanced_results.proofs.best.Tie as tie
 
 -- once the table is filled
 abbrev entry : tie.After-fill-values → tie.Start
-entry i = i .before .before .before .before .before .before
+entry i = i .before .before .before .before .before .before .before
 
 -- the shares' buffer has a place for each site and for site 0
 shares-size : (s : tie.Start) → length {A = ℕ} (take (s .args .m + 1) (replicate 65 0)) ≡ s .args .m + 1
 shares-size s = front-length (s .args .m + 1) 65 (omega (arith, s .pre .0 .0 .few-sites))
 
 array-borrow-prefix-table : tie.Need-array-borrow-prefix-table
-array-borrow-prefix-table c = let p = c .before .before .before .before .pre in omega (arith, street-fits (p .0 .0))
+array-borrow-prefix-table c = let p = c .before .before .before .before .before .pre in omega (arith, street-fits (p .0 .0))
 
 slice-aggregate-fill-values : tie.Need-slice-aggregate-fill-values
-slice-aggregate-fill-values c = let p = c .before .before .before .before .before .pre in sym (part-blank (street-fits (p .0 .0)) .size)
+slice-aggregate-fill-values c = let p = c .before .before .before .before .before .before .pre in sym (part-blank (street-fits (p .0 .0)) .size)
 
 fill-values-requires : tie.Need-fill-values-requires
-fill-values-requires c κs = let p = c .before .before .before .before .before .pre in (p .0 .0, part-blank (street-fits (p .0 .0)))
+fill-values-requires c κs = let p = c .before .before .before .before .before .before .pre in (p .0 .0, part-blank (street-fits (p .0 .0)))
 
 array-share-prefix-table : tie.Need-array-share-prefix-table
-array-share-prefix-table c = part-room _ (c .before .fill-values .ensures)
+array-share-prefix-table c = part-room _ (c .before .before .fill-values .ensures)
 
 slice-aggregate-divide-table : tie.Need-slice-aggregate-divide-table
-slice-aggregate-divide-table c = part-size _ (c .before .before .fill-values .ensures)
+slice-aggregate-divide-table c = part-size _ (c .before .before .before .fill-values .ensures)
 
 slice-aggregate-divide-table-2 : tie.Need-slice-aggregate-divide-table-2
-slice-aggregate-divide-table-2 c = sym (shares-size (c .before .before .before .before .before .before .before .before .before .before .before))
+slice-aggregate-divide-table-2 c = sym (shares-size (c .before .before .before .before .before .before .before .before .before .before .before .before .before))
 
 divide-table-requires : tie.Need-divide-table-requires
 divide-table-requires c κs =
-    let i = c .before .before .before .before .before in
+    let i = c .before .before .before .before .before .before in
     let a = entry i .args in
     let p = entry i .pre in
     let ok = p .0 .0 in
@@ -50,7 +50,7 @@ divide-table-requires c κs =
       (
         street-ready ok _ filled _ (p .1),
         along (λ (j : ℕ). Ranked j (a .m) (a .rows .now)) (p .1) (ranked ok),
-        table-falls ok _ _ (p .1) (street-same ok _ filled),
+        λ e. table-falls ok (c .before .before .before .before .even .ensures e) _ _ (p .1) (street-same ok _ filled),
       ),
       (
         p .0 .1,
@@ -60,7 +60,7 @@ divide-table-requires c κs =
 
 returns : tie.Need-returns
 returns c =
-    let i = c .before .before .before .before .before .before .before .before .before .before .before in
+    let i = c .before .before .before .before .before .before .before .before .before .before .before .before in
     let a = entry i .args in
     let p = entry i .pre in
     let t = c .before .before .before .before .before .divide-table .ensures in
@@ -76,6 +76,7 @@ best-spec =
     array-borrow-prefix-table
     slice-aggregate-fill-values
     fill-values-requires
+    (λ c κs. search needs)
     array-share-prefix-table
     slice-aggregate-divide-table
     (λ c. search needs)

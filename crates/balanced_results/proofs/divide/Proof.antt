@@ -17,7 +17,7 @@ list-size s = front-length (length (s .args .sites .now)) 64 (omega (arith, s .p
 
 -- ---- once the list is copied
 abbrev entry : tie.After-copy-bytes → tie.Start
-entry i = i .before .before .before .before .before .before
+entry i = i .before .before .before .before .before .before .before
 
 abbrev copied : tie.After-copy-bytes → List ℕ
 copied i = i .copy-bytes .last .1 .0
@@ -30,10 +30,10 @@ same : (i : tie.After-copy-bytes) (rest : List ℕ) → take (length (entry i .a
 same i rest = back-is _ (copied i) rest (copied-size i) ∙ i .copy-bytes .ensures
 
 slice-aggregate-copy-bytes : tie.Need-slice-aggregate-copy-bytes
-slice-aggregate-copy-bytes c = sym (list-size (c .before .before .before .before .before))
+slice-aggregate-copy-bytes c = sym (list-size (c .before .before .before .before .before .before))
 
 copy-bytes-requires : tie.Need-copy-bytes-requires
-copy-bytes-requires c κs = sym (list-size (c .before .before .before .before .before))
+copy-bytes-requires c κs = sym (list-size (c .before .before .before .before .before .before))
 
 array-borrow-prefix-list-2 : tie.Need-array-borrow-prefix-list-2
 array-borrow-prefix-list-2 c = back-room _ (copied (c .before)) _ (copied-size (c .before))

@@ -13,8 +13,8 @@ abbrev entry : tie.After-divide → tie.Start
 entry i = i .before .before .before .before .before .before .before .before .before
 
 -- the buffer keeps its length
-streets : (i : tie.After-divide) → length (i .divide .last .1 .1 .1 .1 .1 .0) ≡ length (entry i .args .division .now)
-streets i = i .divide .kept .1 .1 .1 .1 .1 .0
+streets : (i : tie.After-divide) → length (i .divide .last .1 .1 .1 .1 .1 .1 .0) ≡ length (entry i .args .division .now)
+streets i = i .divide .kept .1 .1 .1 .1 .1 .1 .0
 
 best-requires : tie.Need-best-requires
 best-requires c κs =

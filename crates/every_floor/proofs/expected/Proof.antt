@@ -1,11 +1,11 @@
 -- `every_floor::expected` meets its contract. Assumes nothing.
 use borrow.Author.Needs.{needs}
-use Prim.Native.Nat.{_≤_, _-_, _*_}
+use Prim.Native.Nat.{_≤_, _*_, _-_}
 use Rattle.every_floor.proofs.expected.Statement.{statement}
 use Rattle.every_floor.proofs.expected.Tie as tie
 
 abbrev Inv-loop : tie.InvT-loop
-Inv-loop scores m k sum₀ i₀ sum i = (i ≤ k) × (sum ≤ i * 65535)
+Inv-loop scores m k sum₀ i₀ sum i = (i ≤ k) × (k ≤ m) × (m ≤ 64) × (sum ≤ i * 65535)
 
 abbrev μ-loop : tie.MeasureT-loop
 μ-loop scores m k sum₀ i₀ sum i = k - i

@@ -5,10 +5,10 @@ use Rattle.every_floor.proofs.right_floors.Statement.{statement}
 use Rattle.every_floor.proofs.right_floors.Tie as tie
 
 abbrev Inv-loop : tie.InvT-loop
-Inv-loop scores rows m count₀ i₀ count i = (i ≤ m) × (count ≤ i)
+Inv-loop scores weights rows m count₀ i₀ count i = (i ≤ m) × (count ≤ i)
 
 abbrev μ-loop : tie.MeasureT-loop
-μ-loop scores rows m count₀ i₀ count i = m - i
+μ-loop scores weights rows m count₀ i₀ count i = m - i
 
 pub right-floors-spec : {M : Type 1} → statement M
 right-floors-spec =

@@ -1,9 +1,9 @@
 -- `file_calls::write_file` meets its contract. Assumes nothing.
 use borrow.Author.Needs.{needs}
-use mathlib.Core.Path.{_≡_}
+use mathlib.Core.Path.{_≡_, refl}
 use native.Mathlib.Omega.{arith}
 use lib.ListN.{length}
-use Rattle.survey.specs.Town.{townOf}
+use Rattle.survey.specs.Town.{plainTown}
 use Rattle.survey_file.specs.Encode.{encode}
 use Rattle.file_calls.proofs.FilePromises.{write-refused, write-accepted, write-ready, write-room, write-short, write-given}
 use Rattle.file_calls.proofs.write_file.Statement.{statement}
@@ -25,7 +25,7 @@ write-requires c κs =
 
 -- the length, once it is taken
 sized : (i : tie.After-file-length) → let a = i .before .before .before .before .before .before .before .args in
-    i .file-length .result ≡ length (encode (townOf (a .n) (a .m) (a .scores .now) (a .rows .now)) (a .k) (a .kind))
+    i .file-length .result ≡ length (encode (plainTown (a .n) (a .m) (a .scores .now) (a .rows .now)) (a .k) (a .kind))
 sized i = let a = i .before .before .before .before .before .before .before .args in i .file-length .ensures (a .k) (a .kind) (a .scores .now)
 
 cast-t16 : tie.Need-cast-t16
@@ -36,7 +36,7 @@ cast-t16 c =
 returns-2 : tie.Need-returns-2
 returns-2 c =
     let i = c .before .before .before .before in
-    write-given (i .before .before .write-refusal .ensures) (i .before .if1 .left) (sized i) (c .before .before .write .ensures)
+    write-given (i .before .before .write-refusal .ensures) (i .before .if1 .left) refl (sized i) (c .before .before .write .ensures)
 
 pub write-file-spec : {M : Type 1} → statement M
 write-file-spec =

@@ -5,7 +5,7 @@ use mathlib.Core.Path.{_≡_}
 use Prim.Native.Nat.{ℕ, _+_, _≤_}
 use lib.ListN.{length}
 use Rattle.counting.specs.Buffers.{joined}
-use Rattle.survey.specs.Town.{Town, townOf}
+use Rattle.survey.specs.Town.{Town, plainTown}
 use Rattle.survey_file.specs.Encode.{scoresBytes, streetBytes}
 use Rattle.file_writer.proofs.Encoded.{records-length, encode-written}
 use Rattle.file_writer.proofs.write.Statement.{statement}
@@ -26,7 +26,7 @@ at-streets i = i .before .before .before .before
 
 -- ---- what is written
 abbrev lent : tie.Start → Town
-lent i = let a = i .args in townOf (a .n) (a .m) (a .scores .now) (a .rows .now)
+lent i = let a = i .args in plainTown (a .n) (a .m) (a .scores .now) (a .rows .now)
 
 -- the lengths of SC and of the street records
 abbrev table : tie.Start → ℕ

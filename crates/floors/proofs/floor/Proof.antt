@@ -1,51 +1,38 @@
 -- `floors::floor` meets its contract. Assumes nothing.
 use borrow.Author.Needs.{needs}
-use mathlib.Core.Path.{_≡_}
-use Prim.Native.Nat.{_-_, _*_, _≤_}
+use mathlib.Core.Path.{_≡_, ap, _∙_}
+use Prim.Native.Nat.{ℕ, _*_, _≤_}
+use native.Mathlib.Nat.{mul-le-mul}
 use native.Mathlib.Omega.{arith}
-use Rattle.counting.specs.Bounds.{mostTotal}
-use Rattle.counting.specs.Words.{sumOf}
-use Rattle.survey.specs.Rows.{scoreAt}
+use Rattle.counting.specs.Bounds.{topWeight}
+use Rattle.survey.specs.Rows.{scoreAt, shortestOf, leastOf}
+use Rattle.survey.proofs.LeastWeights.{weight-bound, least-low}
 use Rattle.shares.specs.Rounds.{roundShare}
-use Rattle.balanced_plan.specs.Floor.{added}
-use Rattle.floors.proofs.FloorSteps.{sum-more, floor-end}
+use Rattle.balanced_plan.specs.Floor.{floor}
 use Rattle.floors.proofs.floor.Statement.{statement}
 use Rattle.floors.proofs.floor.Tie as tie
 
-abbrev Inv-loop : tie.InvT-loop
-Inv-loop n m k scores rows t table total₀ i₀ total i = (i ≤ k) × (total ≡ sumOf i (added (roundShare n k) (scoreAt scores) t m k)) × (total ≤ i * mostTotal)
+-- the smallest weight
+least : (c : tie.After-plain-floor) → let a = c .before .before .before .before .before .args in c .before .least .result ≡ leastOf (a .n) (a .weights .now)
+least c = rw (c .before .before .before .before .before .pre .0 .weights-fit) at (c .before .least .ensures)
 
-abbrev μ-loop : tie.MeasureT-loop
-μ-loop n m k scores rows t table total₀ i₀ total i = k - i
+-- the floor by plain scores
+abbrev floorOf : tie.After-plain-floor → ℕ
+floorOf c =
+    let a = c .before .before .before .before .before .args in
+    floor (roundShare (a .n) (a .k)) (scoreAt (a .scores .now)) (shortestOf (a .n) (a .m) (a .rows .now)) (a .m) (a .k)
 
-loop-again : tie.Need-loop-again Inv-loop μ-loop
-loop-again c =
-    let a = c .before .before .before .before .before .before .before .before .args in
-    let l = c .before .before .before .loop in
-    let t = c .before .before .before .before .before .shortest .result in
-    let f = added (roundShare (a .n) (a .k)) (scoreAt (a .scores .now)) t (a .m) (a .k) in
-    (omega arith, sum-more f (l .i) _ _ (l .inv .1) (c .added .ensures .0), omega arith)
+mul-result : tie.Need-mul-result
+mul-result c =
+    let a = c .before .before .before .before .before .args in
+    let ok = c .before .before .before .before .before .pre .0 in
+    let low : c .before .least .result ≤ topWeight =
+    omega (arith, least c, least-low (a .n) (a .weights .now) 0 (ok .some-street), weight-bound (a .weights .now) (ok .sound-weights) 0) in
+    omega (arith, mul-le-mul low (c .plain-floor .ensures .1))
 
-returns : tie.Need-returns Inv-loop μ-loop
+returns : tie.Need-returns
 returns c =
-    let a = c .before .before .before .before .before .before .args in
-    let l = c .before .loop in
-    let call = c .before .before .before .shortest in
-    floor-end (roundShare (a .n) (a .k)) (scoreAt (a .scores .now)) (call .result) _ (a .m) (a .k) (l .i) _ (call .ensures) (omega arith) (omega arith)
-    (l .inv .1)
+    ap (λ (x : ℕ). c .before .least .result * x) (c .plain-floor .ensures .0) ∙ ap (λ (x : ℕ). x * floorOf c) (least c)
 
 pub floor-spec : {M : Type 1} → statement M
-floor-spec =
-    tie.close
-    (tie.spec
-    Inv-loop
-    μ-loop
-    (λ c κs. search needs)
-    (λ c κs. search needs)
-    (λ c. search needs)
-    (λ c κs. search needs)
-    (λ c. search needs)
-    (λ c. search needs)
-    (λ c. search needs)
-    loop-again
-    returns)
+floor-spec = tie.close (tie.spec (λ c κs. search needs) (λ c. search needs) (λ c κs. search needs) mul-result returns)

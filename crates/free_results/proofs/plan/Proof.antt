@@ -10,7 +10,7 @@ use Rattle.free_results.proofs.plan.Tie as tie
 
 -- once the rounds are played
 abbrev entry : tie.After-planned → tie.Start
-entry i = i .before .before .before .before .before .before
+entry i = i .before .before .before .before .before .before .before
 
 -- the sites that they chose are as many as their buffer has places
 chosen-size : (i : tie.After-planned) → length (take (length (entry i .args .chosen .now)) (i .planned .result .chosen)) ≡ length (entry i .args .chosen .now)
@@ -20,7 +20,7 @@ chosen-size i =
 
 planned-requires : tie.Need-planned-requires
 planned-requires c κs =
-    let p = c .before .before .before .before .before .pre in
+    let p = c .before .before .before .before .before .before .pre in
     (p .0 .0, (omega (arith, p .0 .1), λ i. omega arith))
 
 serve-requires : tie.Need-serve-requires

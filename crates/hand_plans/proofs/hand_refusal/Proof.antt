@@ -18,10 +18,10 @@ abbrev given : tie.Start → HandInput
 given s =
     let a = s .args in
     let loads = loadsOf (a .kilograms .now) (a .litres .now) (a .kilogram-limits .now) (a .litre-limits .now) in
-    handOf (townOf (a .n) (a .m) (a .scores .now) (a .rows .now)) (a .k) (a .kind) (a .division .now) (a .claimed) loads
+    handOf (townOf (a .n) (a .m) (a .scores .now) (a .weights .now) (a .rows .now)) (a .k) (a .kind) (a .division .now) (a .claimed) loads
 
 abbrev start : tie.After-survey-refusal → tie.Start
-start c = c .before .before .before .before .before .before .before .before .before
+start c = c .before .before .before .before .before .before .before .before .before .before
 
 -- the number of the survey
 survey : (c : tie.After-survey-refusal) → let i = given (start c) in
@@ -42,10 +42,10 @@ returns : tie.Need-returns
 returns c = record { first = or-stop _ _ _ (survey (c .before)) (c .if1 .taken) }
 
 usage-refusal-requires : tie.Need-usage-refusal-requires
-usage-refusal-requires c κs = let h = known c in (h .fit .3, h .some-chosen, h .fit .2)
+usage-refusal-requires c κs = let h = known c in (h .survey .few-sites, h .some-chosen, h .survey .few-streets)
 
 sent-refusal-requires : tie.Need-sent-refusal-requires
-sent-refusal-requires c κs = let h = known (c .before .before) in (h .fit, h .lengths)
+sent-refusal-requires c κs = let h = known (c .before .before) in ((h .survey, h .size), h .lengths)
 
 returns-2 : tie.Need-returns-2
 returns-2 c =

@@ -27,12 +27,12 @@ returns-5 c = search chain
 limits-refusal-requires : tie.Need-limits-refusal-requires
 limits-refusal-requires c κs =
     let tried = c .before .before .before in
-    let s = tried .before .before .before .before .before .before .before .before .before in
+    let s = tried .before .before .before .before .before .before .before .before .before .before in
     let a = s .args in
     let l = loadsOf (a .kilograms .now) (a .litres .now) (a .kilogram-limits .now) (a .litre-limits .now) in
     let (k, h) = load-sizes (a .n) (a .m) l (s .pre .1) (sym (tried .before .loads-refusal .ensures) ∙ tried .if1 .left) in
     let n = sym (s .pre .0 .1) in (
-      (s .pre .0 .3, omega (arith, s .pre .0)),
+      (s .pre .0 .0 .few-sites, omega (arith, s .pre .0 .0 .few-streets, s .pre .0 .1)),
       ((k .streets-fit ∙ n, k .none-above, k .limits-fit), (h .streets-fit ∙ n, h .none-above, h .limits-fit)),
     )
 

@@ -25,6 +25,9 @@ returns-6 c = record { first = search chain depth 40 }
 returns-7 : tie.Need-returns-7
 returns-7 c = record { first = search chain depth 40 }
 
+returns-8 : tie.Need-returns-8
+returns-8 c = record { first = search chain depth 40 }
+
 pub row-score-refusal-spec : {M : Type 1} → statement M
 row-score-refusal-spec =
     tie.close
@@ -38,4 +41,6 @@ row-score-refusal-spec =
     (λ c κs. search needs)
     returns-6
     (λ c κs. search needs)
-    returns-7)
+    returns-7
+    (λ c κs. search needs)
+    returns-8)

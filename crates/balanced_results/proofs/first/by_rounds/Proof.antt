@@ -7,7 +7,7 @@ use lib.ListN.{length, take}
 use lib.Seq.{length-take-le}
 use Rattle.tables.specs.Tables.{valueIn}
 use Rattle.balanced_plan.specs.Rounds as plan
-use Rattle.balanced_results.specs.Plans.{rowKey, roundsBy}
+use Rattle.balanced_results.specs.Plans.{roundsBy}
 use Rattle.balanced_results.proofs.SurveyRounds.{rounds-shareable, rounds-begun, state-sites, state-division}
 use Rattle.balanced_results.proofs.first.by_rounds.Statement.{statement}
 use Rattle.balanced_results.proofs.first.by_rounds.Tie as tie
@@ -68,7 +68,7 @@ share-out-requires c κs =
     let i = c .before .before .before .before in
     let a = entry (played i) .args in
     let p = entry (played i) .pre in
-    let ready = rounds-shareable (valueIn (a .values .now) (a .m)) (rowKey (a .m) (a .rows .now)) (streets (played i)) (a .m) (count (played i)) (p .1 .0 .0)
+    let ready = rounds-shareable (valueIn (a .values .now) (a .m)) _ (streets (played i)) (a .m) (count (played i)) (p .1 .0 .0)
     (p .1 .0 .1) (chosen i) in
     record { few = p .0 .0 .few-streets; within = ready .sites; apart = ready .apart; size = p .1 .1 .0; none = p .1 .1 .1 }
 
@@ -77,7 +77,7 @@ returns c =
     let i = c .before .before .before .before .before .before .before in
     let a = entry (played i) .args in
     let p = entry (played i) .pre in
-    let begun = rounds-begun (valueIn (a .values .now) (a .m)) (rowKey (a .m) (a .rows .now)) (streets (played i)) (a .m) (count (played i)) (p .1 .0 .0)
+    let begun = rounds-begun (valueIn (a .values .now) (a .m)) _ (streets (played i)) (a .m) (count (played i)) (p .1 .0 .0)
     (p .1 .0 .1) (chosen i) (division i) (c .before .before .share-out .ensures) in
     (begun, chosen i)
 

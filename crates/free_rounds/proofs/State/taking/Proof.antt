@@ -14,11 +14,11 @@ use Rattle.free_rounds.proofs.State.taking.Tie as tie
 
 -- the site's row ends within the table, which is not long
 fits : (s : tie.Start) → let a = s .args in (a .site * a .n + a .n ≤ length (a .values .now)) × (length (a .values .now) ≤ mostEntries)
-fits s = row-ends (s .pre .0) (s .pre .1 .1 .0)
+fits s = row-ends (s .pre .0 .0) (s .pre .1 .0)
 
 -- the bests that are lent are as many as the town has streets
 whole : (s : tie.Start) → length (take (s .args .n) (s .args .t1 .bests)) ≡ s .args .n
-whole s = length-take-le (s .args .n) (s .args .t1 .bests) (omega (arith, s .pre .0 .few-streets, s .pre .1 .0 .0 .bests-size))
+whole s = length-take-le (s .args .n) (s .args .t1 .bests) (omega (arith, s .pre .0 .0 .few-streets, s .pre .0 .1 .bests-size))
 
 -- the start, from the bests lent
 abbrev start : tie.After-bests2 → tie.Start
@@ -28,20 +28,20 @@ abbrev raising : tie.After-bests3 → tie.After-bests2
 raising c = c .before .before .before
 
 raise-requires : tie.Need-raise-requires
-raise-requires c κs = let s = start (c .before) in row-length (s .pre .0) (s .pre .1 .1 .0) ∙ sym (whole s)
+raise-requires c κs = let s = start (c .before) in row-length (s .pre .0 .0) (s .pre .1 .0) ∙ sym (whole s)
 
 returns : tie.Need-returns
 returns c =
     let a = start (raising c) .args in
     let p = start (raising c) .pre in
-    let held = p .1 .0 .0 in
-    let room = p .1 .1 .1 in
+    let held = p .0 .1 in
+    let room = p .1 .1 in
     let row = part (a .site * a .n) (a .site * a .n + a .n) (a .values .now) in
-    let low : a .site < 256 = omega (arith, p .1 .1 .0, p .0 .few-sites) in (
+    let low : a .site < 256 = omega (arith, p .1 .0, p .0 .0 .few-sites) in (
       (refl, sites-more held room (a .site)),
       (
-        held-more held room (a .site) row low (p .0 .few-streets) (row-at (p .0) (p .1 .1 .0)) (c .before .raise .ensures),
-        bounds-more held room (a .site) (p .1 .0 .1),
+        held-more held room (a .site) row low (p .0 .0 .few-streets) (row-at (p .0 .0) (p .1 .0)) (c .before .raise .ensures),
+        bounds-more held room (a .site),
       ),
     )
 

@@ -1,58 +1,44 @@
 -- `free_rounds::sums::sum` meets its contract. Assumes nothing.
-use borrow.Author.Needs.{needs}
-use mathlib.Core.Path.{_≡_, refl}
-use Prim.Native.Nat.{_≤_, _-_, _*_}
+use Prim.Native.Nat.{ℕ, _≤_}
+use Rattle.counting.specs.Bounds.{topWeight}
 use native.Mathlib.Omega.{arith}
-use lib.ListN.{length}
-use Rattle.counting.specs.Words.{sumOf}
-use Rattle.counting.proofs.Sums.{sum-end}
 use Rattle.counting.specs.Lists.{at}
-use Rattle.free_rounds.proofs.RoundLoops.{sum-turn}
+use Rattle.free_rounds.proofs.RoundLoops.{scores-sum, total-small, even-sum}
 use Rattle.free_rounds.proofs.sums.sum.Statement.{statement}
 use Rattle.free_rounds.proofs.sums.sum.Tie as tie
 
-abbrev Inv-loop : tie.InvT-loop
-Inv-loop bests total₀ s₀ s-end total s = (s ≤ s-end) × (s-end ≡ length bests) × (total ≡ sumOf s (at bests)) × (total ≤ s * 1000)
+-- the places: the weights are equal, and the plain sum is found
+abbrev start : tie.Then1 → tie.Start
+start t = t .before .before .before
 
-abbrev μ-loop : tie.MeasureT-loop
-μ-loop bests total₀ s₀ s-end total s = s-end - s
+abbrev equal : tie.After-plain-sum → tie.Then1
+equal c = c .before .before
 
--- the places: the start, the head of the loop, and a street more
-abbrev start : tie.At-loop Inv-loop μ-loop → tie.Start Inv-loop μ-loop
-start h = h .before .before
+-- what is summed of a street
+abbrev score : tie.Start → ℕ → ℕ
+score s t = at (s .args .bests .now) t
 
-abbrev head : tie.After-wide Inv-loop μ-loop → tie.At-loop Inv-loop μ-loop
-head w = w .before .before .before
+first-requires : tie.Need-first-requires
+first-requires c κs = start c .pre .2 .small
 
-loop-holds : tie.Need-loop-holds Inv-loop μ-loop
-loop-holds c = (search needs, refl, refl, search needs)
+plain-sum-requires : tie.Need-plain-sum-requires
+plain-sum-requires c κs = let p = start (c .before) .pre in (p .0, p .1)
 
-add-total : tie.Need-add-total Inv-loop μ-loop
-add-total c = omega (arith, c .wide .ensures, start (head c) .pre .0 (head c .loop .s))
+-- the product is not great
+mul-result : tie.Need-mul-result
+mul-result c =
+    let s = start (equal c) in
+    let p = s .pre in
+    let weight : c .before .first .result ≤ topWeight = omega (arith, c .before .first .ensures, p .2 .small 0) in
+    omega (arith, total-small weight (scores-sum (score s) (p .1) (p .0) (c .plain-sum .ensures)))
 
-loop-again : tie.Need-loop-again Inv-loop μ-loop
-loop-again c =
-    let l = head c .loop in
-    (omega arith, refl, sum-turn _ (l .s) _ _ (l .inv .2) (c .wide .ensures), omega (arith, c .wide .ensures, start (head c) .pre .0 (l .s)))
-
-returns : tie.Need-returns Inv-loop μ-loop
+returns : tie.Need-returns
 returns c =
-    let l = c .before .loop in
-    let a = start (c .before) .args in
-    sum-end (at (a .bests .now)) (l .s) (length (a .bests .now)) _ (omega arith) (omega arith) (l .inv .2)
+    let s = start (equal c) in
+    even-sum (s .pre .2) (equal c .if1 .taken) (score s) (c .before .first .ensures) (c .plain-sum .ensures)
+
+weighed-sum-requires : tie.Need-weighed-sum-requires
+weighed-sum-requires c κs = let p = c .before .before .before .pre in ((p .0, p .1), (p .2 .size, p .2 .small))
 
 pub sum-spec : {M : Type 1} → statement M
-sum-spec =
-    tie.close
-    (tie.spec
-    Inv-loop
-    μ-loop
-    loop-holds
-    (λ c. search needs)
-    (λ c. search needs)
-    (λ c κs. search needs)
-    add-total
-    (λ c. search needs)
-    (λ c. search needs)
-    loop-again
-    returns)
+sum-spec = tie.close (tie.spec first-requires plain-sum-requires mul-result returns weighed-sum-requires (λ c. c .weighed-sum .ensures))

@@ -1,27 +1,12 @@
 -- `plain_search::floors::floor` meets its contract. Assumes nothing.
-use Prim.Native.Nat.{_≤_, _*_, _-_}
-use mathlib.Core.Path.{_≡_}
 use borrow.Author.Needs.{needs}
+use native.Mathlib.Nat.{mul-le-mul}
+use native.Mathlib.Omega.{arith}
 use Rattle.plain_search.proofs.floors.floor.Statement.{statement}
 use Rattle.plain_search.proofs.floors.floor.Tie as tie
 
-abbrev Inv-loop : tie.InvT-loop
-Inv-loop town t sum₀ i₀ i-end sum i = (i ≤ i-end) × (i-end ≡ town .k) × (sum ≤ 600000 * i)
-
-abbrev μ-loop : tie.MeasureT-loop
-μ-loop town t sum₀ i₀ i-end sum i = i-end - i
+mul-result : tie.Need-mul-result
+mul-result c = omega (arith, mul-le-mul (c .before .least-weight .ensures) (c .plain-floor .ensures))
 
 pub floor-spec : {M : Type 1} → statement M
-floor-spec =
-    tie.close
-    (tie.spec
-    Inv-loop
-    μ-loop
-    (λ c κs. search needs)
-    (λ c. search needs)
-    (λ c κs. search needs)
-    (λ c. search needs)
-    (λ c. search needs)
-    (λ c. search needs)
-    (λ c. search needs)
-    (λ c. search needs))
+floor-spec = tie.close (tie.spec (λ c κs. search needs) (λ c κs. search needs) mul-result (λ c. search needs))

@@ -6,10 +6,10 @@ use Rattle.plain_search.proofs.rounds.best_site.Statement.{statement}
 use Rattle.plain_search.proofs.rounds.best_site.Tie as tie
 
 abbrev Inv-loop : tie.InvT-loop
-Inv-loop town given round chosen best₀ i₀ i-end best i = (i ≤ i-end) × (i-end ≡ town .m) × (best .number ≤ 5)
+Inv-loop town given round by-place chosen best₀ i₀ i-end best i = (i ≤ i-end) × (i-end ≡ town .m) × (best .number ≤ 5)
 
 abbrev μ-loop : tie.MeasureT-loop
-μ-loop town given round chosen best₀ i₀ i-end best i = i-end - i
+μ-loop town given round by-place chosen best₀ i₀ i-end best i = i-end - i
 
 pub best-site-spec : {M : Type 1} → statement M
 best-site-spec =

@@ -6,10 +6,10 @@ use Rattle.plain_search.proofs.rounds.first_free.Statement.{statement}
 use Rattle.plain_search.proofs.rounds.first_free.Tie as tie
 
 abbrev Inv-loop : tie.InvT-loop
-Inv-loop town site given first₀ s₀ s-end first s = (s ≤ s-end) × (s-end ≡ town .n) × (first .street ≤ 8)
+Inv-loop town site by-place given first₀ s₀ s-end first s = (s ≤ s-end) × (s-end ≡ town .n) × (first .street ≤ 8)
 
 abbrev μ-loop : tie.MeasureT-loop
-μ-loop town site given first₀ s₀ s-end first s = s-end - s
+μ-loop town site by-place given first₀ s₀ s-end first s = s-end - s
 
 pub first-free-spec : {M : Type 1} → statement M
 first-free-spec =
@@ -18,7 +18,7 @@ first-free-spec =
     Inv-loop
     μ-loop
     (λ c. search needs)
-    (λ c. search needs)
+    (λ c κs. search needs)
     (λ c. search needs)
     (λ c κs. search needs)
     (λ c. search needs)

@@ -6,7 +6,7 @@ use Rattle.plain_search.proofs.scores.total.Statement.{statement}
 use Rattle.plain_search.proofs.scores.total.Tie as tie
 
 abbrev Inv-loop : tie.InvT-loop
-Inv-loop town division sum₀ s₀ s-end sum s = (s ≤ s-end) × (s-end ≡ town .n) × (sum ≤ 65535 * s)
+Inv-loop town division sum₀ s₀ s-end sum s = (s ≤ s-end) × (s-end ≡ town .n) × (sum ≤ 16711425 * s)
 
 abbrev μ-loop : tie.MeasureT-loop
 μ-loop town division sum₀ s₀ s-end sum s = s-end - s
@@ -20,7 +20,6 @@ total-spec =
     (λ c. search needs)
     (λ c. search needs)
     (λ c κs. search needs)
-    (λ c. search needs)
     (λ c. search needs)
     (λ c. search needs)
     (λ c. search needs)

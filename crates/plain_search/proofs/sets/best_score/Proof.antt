@@ -6,7 +6,7 @@ use Rattle.plain_search.proofs.sets.best_score.Statement.{statement}
 use Rattle.plain_search.proofs.sets.best_score.Tie as tie
 
 abbrev Inv-loop : tie.InvT-loop
-Inv-loop town s set best₀ i₀ i-end best i = (i ≤ i-end) × (i-end ≡ town .m)
+Inv-loop town s set best₀ i₀ i-end best i = (i ≤ i-end) × (i-end ≡ town .m) × (best ≤ 16711425)
 
 abbrev μ-loop : tie.MeasureT-loop
 μ-loop town s set best₀ i₀ i-end best i = i-end - i

@@ -5,7 +5,7 @@ use Rattle.plain_search.proofs.sets.best_total.Statement.{statement}
 use Rattle.plain_search.proofs.sets.best_total.Tie as tie
 
 abbrev Inv-loop : tie.InvT-loop
-Inv-loop town best₀ number₀ best number = (number ≤ 64) × (best ≤ 600000)
+Inv-loop town best₀ number₀ best number = (number ≤ 64) × (best ≤ 133691400)
 
 abbrev μ-loop : tie.MeasureT-loop
 μ-loop town best₀ number₀ best number = 64 - number

@@ -6,7 +6,7 @@ use Rattle.plain_search.proofs.sets.set_total.Statement.{statement}
 use Rattle.plain_search.proofs.sets.set_total.Tie as tie
 
 abbrev Inv-loop : tie.InvT-loop
-Inv-loop town set sum₀ s₀ s-end sum s = (s ≤ s-end) × (s-end ≡ town .n) × (sum ≤ 65535 * s)
+Inv-loop town set sum₀ s₀ s-end sum s = (s ≤ s-end) × (s-end ≡ town .n) × (sum ≤ 16711425 * s)
 
 abbrev μ-loop : tie.MeasureT-loop
 μ-loop town set sum₀ s₀ s-end sum s = s-end - s
@@ -19,7 +19,6 @@ set-total-spec =
     μ-loop
     (λ c. search needs)
     (λ c κs. search needs)
-    (λ c. search needs)
     (λ c. search needs)
     (λ c. search needs)
     (λ c. search needs)

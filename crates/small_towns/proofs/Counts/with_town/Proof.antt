@@ -7,12 +7,12 @@ use Rattle.small_towns.proofs.Counts.with_town.Statement.{statement}
 use Rattle.small_towns.proofs.Counts.with_town.Tie as tie
 
 abbrev Inv-loop : tie.InvT-loop
-Inv-loop self₀ seed₀ numbers₀ kinds₀ town shown sites i₀ i-end self seed numbers kinds i =
+Inv-loop self₀ seed₀ numbers₀ kinds₀ town sites i₀ i-end self seed numbers kinds i =
     (i ≤ i-end) × (i-end ≡ town .m) × Counted (self .sizes) × (self .sizes .choices ≡ self₀ .sizes .choices + i)
-    × (self .compared ≤ self₀ .compared + 62 * i) × (self .differences ≤ self₀ .differences + 62 * i)
+    × (self .compared ≤ self₀ .compared + 66 * i) × (self .differences ≤ self₀ .differences + 66 * i)
 
 abbrev μ-loop : tie.MeasureT-loop
-μ-loop self₀ seed₀ numbers₀ kinds₀ town shown sites i₀ i-end self seed numbers kinds i = i-end - i
+μ-loop self₀ seed₀ numbers₀ kinds₀ town sites i₀ i-end self seed numbers kinds i = i-end - i
 
 pub with-town-spec : {M : Type 1} → statement M
 with-town-spec =
@@ -21,9 +21,6 @@ with-town-spec =
     Inv-loop
     μ-loop
     (λ c κs. search needs)
-    (λ c. search needs)
-    (λ c. search needs)
-    (λ c. search needs)
     (λ c. search needs)
     (λ c. search needs)
     (λ c κs. search needs)

@@ -1,7 +1,7 @@
 -- `small_towns::entries::hand` meets its contract. Assumes nothing.
 use borrow.Author.Needs.{needs}
-use lib.Seq.{length-take-le}
 use mathlib.Core.Path.{sym}
+use lib.Seq.{length-take-le}
 use native.Mathlib.Omega.{arith}
 use Rattle.small_towns.proofs.entries.hand.Statement.{statement}
 use Rattle.small_towns.proofs.entries.hand.Tie as tie
@@ -10,16 +10,6 @@ pub hand-spec : {M : Type 1} → statement M
 hand-spec =
     tie.close
     (tie.spec
-    (λ c κs. search needs)
-    (λ c κs. search needs)
-    (λ c κs. search needs)
-    (λ c κs. search needs)
-    (λ c. search needs)
-    (λ c. sym (length-take-le _ _ (omega arith)))
-    (λ c. search needs)
-    (λ c. sym (length-take-le _ _ (omega arith)))
-    (λ c. search needs)
-    (λ c. sym (length-take-le _ _ (omega arith)))
     (λ c. search needs)
     (λ c. sym (length-take-le _ _ (omega arith)))
     (λ c. search needs)

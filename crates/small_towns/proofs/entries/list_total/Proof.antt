@@ -1,7 +1,7 @@
 -- `small_towns::entries::list_total` meets its contract. Assumes nothing.
 use borrow.Author.Needs.{needs}
-use lib.Seq.{length-take-le}
 use mathlib.Core.Path.{sym}
+use lib.Seq.{length-take-le}
 use native.Mathlib.Omega.{arith}
 use Rattle.small_towns.proofs.entries.list_total.Statement.{statement}
 use Rattle.small_towns.proofs.entries.list_total.Tie as tie
@@ -10,6 +10,8 @@ pub list-total-spec : {M : Type 1} → statement M
 list-total-spec =
     tie.close
     (tie.spec
+    (λ c. search needs)
+    (λ c. sym (length-take-le _ _ (omega arith)))
     (λ c. search needs)
     (λ c. sym (length-take-le _ _ (omega arith)))
     (λ c. search needs)

@@ -30,13 +30,13 @@ returns-7 c = search chain depth 40
 returns-8 : tie.Need-returns-8
 returns-8 c = search chain depth 40
 
-mul-if9 : tie.Need-mul-if9
-mul-if9 c =
-    let a = c .before .before .before .before .before .before .before .before .before .before .args in
-    omega (arith, mul-le-mul {n₁ = a .n} {m₁ = a .m} {n₂ = 400} {m₂ = 64} (omega arith) (omega arith))
-
 returns-9 : tie.Need-returns-9
 returns-9 c = search chain depth 40
+
+mul-if10 : tie.Need-mul-if10
+mul-if10 c =
+    let a = c .before .before .before .before .before .before .before .before .before .before .before .before .args in
+    omega (arith, mul-le-mul {n₁ = a .n} {m₁ = a .m} {n₂ = 400} {m₂ = 64} (omega arith) (omega arith))
 
 returns-10 : tie.Need-returns-10
 returns-10 c = search chain depth 40
@@ -56,9 +56,8 @@ survey-refusal-spec =
     returns-6
     returns-7
     returns-8
-    mul-if9
     returns-9
-    (λ c κs. search needs)
+    mul-if10
     returns-10
     (λ c κs. search needs)
     returns-11)

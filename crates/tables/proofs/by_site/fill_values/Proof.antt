@@ -5,9 +5,10 @@ use Prim.Native.Nat.{_+_, _*_, _≤_, _-_}
 use native.Mathlib.Omega.{arith}
 use lib.ListN.{length}
 use Rattle.survey.specs.Rows.{scoreAt}
+use Rattle.survey.proofs.Places.{score-none}
 use Rattle.tables.specs.Entries.{bySite}
-use Rattle.tables.proofs.Filling.{by-site, Filled, filled-all, filled-more, ranked, row-ends, row-length, street-sound, street-room, street-unread}
-use Rattle.tables.proofs.Tabled.{scores-start, site-fits}
+use Rattle.tables.proofs.Filling.{table-small, by-site, Filled, filled-all, filled-more, row-ends, row-length, street-sound, street-room, street-unread}
+use Rattle.tables.proofs.Tabled.{blank-start}
 use Rattle.tables.proofs.by_site.fill_values.Statement.{statement}
 use Rattle.tables.proofs.by_site.fill_values.Tie as tie
 
@@ -21,12 +22,14 @@ abbrev μ-loop : tie.MeasureT-loop
 ends : (c : tie.In-loop Inv-loop μ-loop) →
     let a = c .before .before .before .before .before .args in
     c .before .loop .s * a .m + a .m ≤ length (a .rows .now)
-ends c = row-ends (ranked (c .before .before .before .before .before .pre .0)) (omega arith)
+ends c = row-ends (c .before .before .before .before .before .pre .0 .0) (omega arith)
 
 loop-holds : tie.Need-loop-holds Inv-loop μ-loop
 loop-holds c =
     let p = c .before .before .before .pre in
-    (search needs, scores-start (c .before .before .before .args .scores .now) _ (by-site _ _) (site-fits (p .0)) (p .1), refl)
+    let scores = c .before .before .before .args .scores .now in
+    let small = table-small _ _ (p .0 .0 .few-streets) (p .0 .0 .few-sites) in
+    (search needs, blank-start (λ s. scoreAt scores) _ (λ s. score-none scores) (by-site _ _) small (p .1), refl)
 
 mul-low : tie.Need-mul-low Inv-loop μ-loop
 mul-low c = omega (arith, ends c)
@@ -41,8 +44,8 @@ fill-street-requires : tie.Need-fill-street-requires Inv-loop μ-loop
 fill-street-requires c κs =
     let l = c .before .before .before .loop in
     let ok = c .before .before .before .before .before .before .before .pre .0 in
-    let rows = ranked ok in (
-      (street-sound rows (omega arith), ok .scores-fit ∙ sym (row-length rows (omega arith))),
+    let rows = ok .0 in (
+      (street-sound rows (omega arith), ok .1 ∙ sym (row-length rows (omega arith))),
       (street-room rows (omega arith) (l .inv .1), street-unread rows (omega arith) (l .inv .1)),
     )
 
@@ -52,7 +55,7 @@ loop-again c =
     let l = c .before .before .before .before .before .before .loop in
     let call = c .before .before .fill-street in
     let same = call .kept .1 .1 .1 .1 .0 in
-    (omega arith, filled-more (ranked ok) (omega arith) (l .inv .1) (call .last .1 .1 .1 .1 .0) same (call .ensures), same ∙ l .inv .2)
+    (omega arith, filled-more (ok .0) (omega arith) (l .inv .1) (call .last .1 .1 .1 .1 .0) same (call .ensures), same ∙ l .inv .2)
 
 same-length : tie.Need-same-length Inv-loop μ-loop
 same-length c = c .before .loop .inv .2

@@ -1,7 +1,8 @@
 -- `tables::by_street::fill_street` meets its contract. Assumes nothing.
 use borrow.Author.Needs.{needs}
-use mathlib.Core.Path.{_≡_, refl, sym}
-use Prim.Native.Nat.{_≤_, _<_, _-_, _+_}
+use mathlib.Core.Path.{_≡_, refl, sym, ap}
+use Prim.Native.Nat.{ℕ, _≤_, _<_, _-_, _+_, _*_}
+use native.Mathlib.Nat.{mul-le-mul}
 use native.Mathlib.Omega.{arith}
 use lib.ListN.{length}
 use Rattle.counting.specs.Bounds.{mostEntries}
@@ -13,10 +14,11 @@ use Rattle.tables.proofs.by_street.fill_street.Statement.{statement}
 use Rattle.tables.proofs.by_street.fill_street.Tie as tie
 
 abbrev Inv-loop : tie.InvT-loop
-Inv-loop from scores row values₀ j₀ j-end values j = (j ≤ j-end) × (j-end ≡ length row) × Passed (scoreAt scores) (λ a. from + a) row values₀ values j
+Inv-loop from scores weight row values₀ j₀ j-end values j =
+    (j ≤ j-end) × (j-end ≡ length row) × Passed (λ p. weight * scoreAt scores p) (λ a. from + a) row values₀ values j
 
 abbrev μ-loop : tie.MeasureT-loop
-μ-loop from scores row values₀ j₀ j-end values j = j-end - j
+μ-loop from scores weight row values₀ j₀ j-end values j = j-end - j
 
 -- in a turn: where the byte's entry stands in the table
 spot : (c : tie.Else1 Inv-loop μ-loop) → let a = c .before .before .before .before .args in let l = c .before .before .before .loop in
@@ -39,14 +41,21 @@ returns c =
 cast-values : tie.Need-cast-values Inv-loop μ-loop
 cast-values c = omega (arith, c .shared-slice-known2 .given (c .before .before .before .before .loop .j))
 
+mul-values-2 : tie.Need-mul-values-2 Inv-loop μ-loop
+mul-values-2 c =
+    let s = c .before .before .before .before .before in
+    let score = at (s .args .scores .now) (c .before .before .before .before .loop .j) in
+    let known = c .shared-slice-known2 .given (c .before .before .before .before .loop .j) in
+    omega (arith, mul-le-mul {n₁ = s .args .weight} {m₁ = score} {n₂ = 255} {m₂ = 65535} (omega (arith, s .fits .weight)) (omega (arith, known)))
+
 cast-values-2 : tie.Need-cast-values-2 Inv-loop μ-loop
 cast-values-2 c = omega (arith, c .before .before .shared-slice-known .given (c .before .before .before .before .loop .j))
 
 add-values : tie.Need-add-values Inv-loop μ-loop
 add-values c = let q = spot (c .before) in omega arith
 
-mul-values-2 : tie.Need-mul-values-2 Inv-loop μ-loop
-mul-values-2 c = let q = spot (c .before) in omega arith
+mul-values-3 : tie.Need-mul-values-3 Inv-loop μ-loop
+mul-values-3 c = let q = spot (c .before) in omega arith
 
 slice-write-values : tie.Need-slice-write-values Inv-loop μ-loop
 slice-write-values c = let q = spot (c .before) in omega arith
@@ -56,7 +65,8 @@ loop-again c =
     let a = c .before .before .before .before .before .args in
     let p = c .before .before .before .before .before .pre in
     let l = c .before .before .before .before .loop in
-    (search needs, refl, passed-more (p .0 .0) (p .1 .0) (l .inv .2) _ (sym (score-next (a .scores .now) (l .j))) (omega arith) (c .before .if1 .left))
+    let next = ap (λ (x : ℕ). a .weight * x) (sym (score-next (a .scores .now) (l .j))) in
+    (search needs, refl, passed-more (p .0 .0) (p .1 .0) (l .inv .2) _ next (omega arith) (c .before .if1 .left))
 
 same-length-2 : tie.Need-same-length-2 Inv-loop μ-loop
 same-length-2 c = c .before .loop .inv .2 .size
@@ -79,9 +89,10 @@ fill-street-spec =
     (λ c. search needs)
     (λ c. search needs)
     cast-values
+    mul-values-2
     cast-values-2
     add-values
-    mul-values-2
+    mul-values-3
     slice-write-values
     (λ c. search needs)
     (λ c. search needs)

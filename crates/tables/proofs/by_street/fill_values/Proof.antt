@@ -4,29 +4,32 @@ use mathlib.Core.Path.{_≡_, refl, sym, _∙_}
 use Prim.Native.Nat.{_+_, _*_, _≤_, _-_}
 use native.Mathlib.Omega.{arith}
 use lib.ListN.{length}
+use Rattle.counting.specs.Lists.{at}
 use Rattle.survey.specs.Rows.{scoreAt}
 use Rattle.tables.specs.Entries.{byStreet}
 use Rattle.tables.proofs.Filling.{by-street, Filled, filled-all, filled-more, ranked, row-ends, row-length, street-sound, street-room, street-unread}
-use Rattle.tables.proofs.Tabled.{scores-start, street-fits}
+use Rattle.tables.proofs.Tabled.{blank-start, weighed-none, street-fits}
 use Rattle.tables.proofs.by_street.fill_values.Statement.{statement}
 use Rattle.tables.proofs.by_street.fill_values.Tie as tie
 
 abbrev Inv-loop : tie.InvT-loop
-Inv-loop n m scores rows values₀ s₀ values s = (s ≤ n) × Filled (λ t. scoreAt scores) (byStreet (m + 1)) n m rows values s × (length values ≡ length values₀)
+Inv-loop n m scores weights rows values₀ s₀ values s =
+    (s ≤ n) × Filled (λ t p. at weights t * scoreAt scores p) (byStreet (m + 1)) n m rows values s × (length values ≡ length values₀)
 
 abbrev μ-loop : tie.MeasureT-loop
-μ-loop n m scores rows values₀ s₀ values s = n - s
+μ-loop n m scores weights rows values₀ s₀ values s = n - s
 
 -- in a turn: the street's row ends within the rows
 ends : (c : tie.In-loop Inv-loop μ-loop) →
-    let a = c .before .before .before .before .before .args in
+    let a = c .before .before .before .before .before .before .args in
     c .before .loop .s * a .m + a .m ≤ length (a .rows .now)
-ends c = row-ends (ranked (c .before .before .before .before .before .pre .0)) (omega arith)
+ends c = row-ends (ranked (c .before .before .before .before .before .before .pre .0)) (omega arith)
 
 loop-holds : tie.Need-loop-holds Inv-loop μ-loop
 loop-holds c =
-    let p = c .before .before .before .pre in
-    (search needs, scores-start (c .before .before .before .args .scores .now) _ (by-street _ _) (street-fits (p .0)) (p .1), refl)
+    let p = c .before .before .before .before .pre in
+    let a = c .before .before .before .before .args in
+    (search needs, blank-start _ (a .rows .now) (weighed-none (a .weights .now) (a .scores .now)) (by-street _ _) (street-fits (p .0)) (p .1), refl)
 
 mul-low : tie.Need-mul-low Inv-loop μ-loop
 mul-low c = omega (arith, ends c)
@@ -40,12 +43,12 @@ mul-fill-street c =
     omega (arith, l .layout .within 0 (c .before .loop .s) (omega arith) (omega arith), l .size)
 
 part-fill-street-end : tie.Need-part-fill-street-end Inv-loop μ-loop
-part-fill-street-end c = omega (arith, ends c)
+part-fill-street-end c = omega (arith, ends (c .before))
 
 fill-street-requires : tie.Need-fill-street-requires Inv-loop μ-loop
 fill-street-requires c κs =
-    let l = c .before .before .before .loop in
-    let ok = c .before .before .before .before .before .before .before .pre .0 in
+    let l = c .before .before .before .before .loop in
+    let ok = c .before .before .before .before .before .before .before .before .before .pre .0 in
     let rows = ranked ok in (
       (street-sound rows (omega arith), ok .scores-fit ∙ sym (row-length rows (omega arith))),
       (street-room rows (omega arith) (l .inv .1), street-unread rows (omega arith) (l .inv .1)),
@@ -53,11 +56,11 @@ fill-street-requires c κs =
 
 loop-again : tie.Need-loop-again Inv-loop μ-loop
 loop-again c =
-    let ok = c .before .before .before .before .before .before .before .before .before .before .pre .0 in
-    let l = c .before .before .before .before .before .before .loop in
+    let ok = c .before .before .before .before .before .before .before .before .before .before .before .before .pre .0 in
+    let l = c .before .before .before .before .before .before .before .loop in
     let call = c .before .before .fill-street in
-    let same = call .kept .1 .1 .1 .0 in
-    (omega arith, filled-more (ranked ok) (omega arith) (l .inv .1) (call .last .1 .1 .1 .0) same (call .ensures), same ∙ l .inv .2)
+    let same = call .kept .1 .1 .1 .1 .0 in
+    (omega arith, filled-more (ranked ok) (omega arith) (l .inv .1) (call .last .1 .1 .1 .1 .0) same (call .ensures), same ∙ l .inv .2)
 
 same-length : tie.Need-same-length Inv-loop μ-loop
 same-length c = c .before .loop .inv .2
@@ -65,7 +68,7 @@ same-length c = c .before .loop .inv .2
 returns : tie.Need-returns Inv-loop μ-loop
 returns c =
     let l = c .before .loop in
-    let p = c .before .before .before .before .before .pre in
+    let p = c .before .before .before .before .before .before .pre in
     record { size = l .inv .2 ∙ p .1 .size; right = λ r k u v. filled-all (omega arith) (l .inv .1) k r (omega arith) u }
 
 pub fill-values-spec : {M : Type 1} → statement M
@@ -79,6 +82,7 @@ fill-values-spec =
     add-high
     (λ c. search needs)
     mul-fill-street
+    (λ c. search needs)
     (λ c. search needs)
     (λ c. search needs)
     part-fill-street-end
