@@ -1,4 +1,5 @@
-// The bench: our plans and the peer's side by side on the same towns, then how our time grows with the town.
+// The bench: our plans and the peer's side by side on the same towns, with all weights 1 and with weights from 1 to 99, then how our time grows
+// with the town.
 #include "ours.hpp"
 #include <chrono>
 #include <cstdio>
@@ -34,9 +35,9 @@ double median(std::vector<double> times) {
     return *middle;
 }
 
-std::vector<Town> makeTowns(Culture culture, std::size_t n, std::size_t m) {
+std::vector<Town> makeTowns(Culture culture, std::size_t n, std::size_t m, std::size_t topWeight = 1) {
     std::vector<Town> towns;
-    for (std::size_t i = 0; i < TOWNS; ++i) towns.push_back(makeTown(culture, n, m, i));
+    for (std::size_t i = 0; i < TOWNS; ++i) towns.push_back(makeTown(culture, n, m, i, topWeight));
     return towns;
 }
 
@@ -75,16 +76,34 @@ void compare(const char* kind, const char* name, std::size_t k, const std::vecto
     std::printf("%-9s %-12s K %2zu %8.0f %8.0f %10.2f%s\n", kind, name, k, our, their, our / their, word);
 }
 
+// Towns of the full size, with weights or with all of them 1.
+template <bool Weighted>
+std::vector<Town> fullTowns(std::size_t culture) {
+    return makeTowns(CULTURES[culture], 400, 64, Weighted ? 99 : 1);
+}
+
+template <bool Weighted>
 void compareFree(std::size_t culture, std::size_t k) {
-    FreePeer peer;
-    compare("free", NAMES[culture], k, makeTowns(CULTURES[culture], 400, 64),
+    FreePeer<Weighted> peer;
+    compare("free", NAMES[culture], k, fullTowns<Weighted>(culture),
             [&](const Town& town) { return ourPlan(PLANNER_FREE, town, k); }, [&](const Town& town) { return peer.plan(town, k); });
 }
 
+template <bool Weighted>
 void compareBalanced(std::size_t culture, std::size_t k) {
-    BalancedPeer peer(400, k);
-    compare("balanced", NAMES[culture], k, makeTowns(CULTURES[culture], 400, 64),
+    BalancedPeer<Weighted> peer(400, k);
+    compare("balanced", NAMES[culture], k, fullTowns<Weighted>(culture),
             [&](const Town& town) { return ourPlan(PLANNER_BALANCED, town, k); }, [&](const Town& town) { return peer.plan(town); });
+}
+
+// The lines of both plans.
+template <bool Weighted>
+void compareAll() {
+    std::printf("%-9s %-12s %4s %8s %8s %10s\n", "plan", "lists", "", "ours", "peer", "ours/peer");
+    for (std::size_t culture = 0; culture < 4; ++culture)
+        for (std::size_t k : SITES) compareFree<Weighted>(culture, k);
+    for (std::size_t culture = 0; culture < 4; ++culture)
+        for (std::size_t k : SITES) compareBalanced<Weighted>(culture, k);
 }
 
 // Our time of both plans on towns of one size.
@@ -97,11 +116,9 @@ void grow(std::size_t n, std::size_t m, std::size_t k) {
 
 int main() {
     std::printf("microseconds, median of %zu runs; n 400, m 64\n", TOWNS * TURNS);
-    std::printf("%-9s %-12s %4s %8s %8s %10s\n", "plan", "lists", "", "ours", "peer", "ours/peer");
-    for (std::size_t culture = 0; culture < 4; ++culture)
-        for (std::size_t k : SITES) compareFree(culture, k);
-    for (std::size_t culture = 0; culture < 4; ++culture)
-        for (std::size_t k : SITES) compareBalanced(culture, k);
+    compareAll<false>();
+    std::printf("\nweights 1 to 99\n");
+    compareAll<true>();
     std::printf("\nof our time the check of the survey, which the peer leaves out\n");
     for (std::size_t culture = 0; culture < 4; ++culture)
         std::printf("%-22s      %8.0f\n", NAMES[culture], timeOf(makeTowns(CULTURES[culture], 400, 64), ourCheck));

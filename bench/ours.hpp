@@ -8,14 +8,16 @@ inline Plan ourPlan(std::size_t kind, const Town& town, std::size_t k) {
     Plan plan;
     plan.sites.resize(k);
     plan.division.resize(town.n);
-    plan.total = planner_plan(town.n, town.m, k, kind, town.scores.data(), town.scores.size(), town.rows.data(), town.rows.size(),
-                              plan.division.data(), plan.division.size(), plan.sites.data(), plan.sites.size());
+    plan.total = planner_plan(town.n, town.m, k, kind, town.scores.data(), town.scores.size(), town.weights.data(), town.weights.size(),
+                              town.rows.data(), town.rows.size(), plan.division.data(), plan.division.size(), plan.sites.data(),
+                              plan.sites.size());
     return plan;
 }
 
 // The check that every entry begins with, alone.
 inline Plan ourCheck(const Town& town) {
     Plan plan;
-    plan.total = planner_check_survey(town.n, town.m, 1, town.scores.data(), town.scores.size(), town.rows.data(), town.rows.size());
+    plan.total = planner_check_survey(town.n, town.m, 1, town.scores.data(), town.scores.size(), town.weights.data(), town.weights.size(),
+                                      town.rows.data(), town.rows.size());
     return plan;
 }

@@ -6,6 +6,7 @@
 #include <lemon/network_simplex.h>
 #include <lemon/smart_graph.h>
 #include <memory>
+#include <type_traits>
 
 // What a plan gives back.
 struct Plan {
@@ -13,7 +14,9 @@ struct Plan {
     std::vector<std::uint8_t> sites, division;
 };
 
-// The free plan: greedy rounds over a table of values. The table is by site, so that a round reads it from end to end.
+// The free plan: greedy rounds over a table of values. The table is by site, so that a round reads it from end to end. Where all weights are
+// 1 the values are the scores, in 16 bits, of which a vector holds twice as many; else they are scores times weights, in 32.
+template <bool Weighted>
 class FreePeer {
 public:
     Plan plan(const Town& town, std::size_t k) {
@@ -22,27 +25,31 @@ public:
         chosen.assign(town.m + 1, 0);
         Plan plan;
         for (std::size_t i = 0; i < k; ++i) plan.sites.push_back(static_cast<std::uint8_t>(round(town)));
-        for (std::uint16_t best : bests) plan.total += best;
+        for (Value best : bests) plan.total += best;
         serve(town, plan.division);
         return plan;
     }
 
 private:
-    std::vector<std::uint16_t> values, bests;
+    using Value = std::conditional_t<Weighted, std::uint32_t, std::uint16_t>;
+
+    std::vector<Value> values, bests;
     std::vector<std::uint8_t> chosen;
 
     void fill(const Town& town) {
         values.assign(town.n * town.m, 0);
         for (std::size_t s = 0; s < town.n; ++s) {
             const std::uint8_t* row = &town.rows[s * town.m];
-            for (std::size_t j = 0; j < town.m && row[j] != 0; ++j) values[(row[j] - 1u) * town.n + s] = town.scores[j];
+            const Value weight = Weighted ? town.weights[s] : 1;
+            for (std::size_t j = 0; j < town.m && row[j] != 0; ++j)
+                values[(row[j] - 1u) * town.n + s] = static_cast<Value>(weight * town.scores[j]);
         }
     }
 
     // What a site adds to the total. The loop has no branch, so that it is compiled to vectors.
-    static std::uint32_t rise(const std::uint16_t* value, const std::uint16_t* best, std::size_t n) {
+    static std::uint32_t rise(const Value* value, const Value* best, std::size_t n) {
         std::uint32_t sum = 0;
-        for (std::size_t s = 0; s < n; ++s) sum += static_cast<std::uint16_t>(std::max(value[s], best[s]) - best[s]);
+        for (std::size_t s = 0; s < n; ++s) sum += static_cast<Value>(std::max(value[s], best[s]) - best[s]);
         return sum;
     }
 
@@ -56,7 +63,7 @@ private:
             if (site == 0 || most < r) site = a, most = r;
         }
         chosen[site] = 1;
-        const std::uint16_t* value = &values[(site - 1) * town.n];
+        const Value* value = &values[(site - 1) * town.n];
         for (std::size_t s = 0; s < town.n; ++s) bests[s] = std::max(bests[s], value[s]);
         return site;
     }
@@ -76,14 +83,52 @@ private:
 // The streets of the site chosen in round i of k, from 0 on: where they don't divide evenly, the first rounds deal one more.
 inline std::size_t share(std::size_t n, std::size_t k, std::size_t i) { return n / k + (i < n % k ? 1 : 0); }
 
+// The key of a street at a site, such that one comparison of keys is the order of a round. Where all weights are 1 that is by place, then by
+// street: place above, street below, and the value of a place from the table of scores.
+class ByPlace {
+public:
+    void read(const Town& town) {
+        scores.assign(town.scores.begin(), town.scores.end());
+        scores.push_back(0);
+    }
+
+    // The key of a street that has the site at this place of its list, counted from 0, and of one that has not ranked it.
+    std::uint32_t ranked(const Town&, std::size_t s, std::size_t j) const { return static_cast<std::uint32_t>(j << 16 | s); }
+    std::uint32_t unranked(const Town& town, std::size_t s) const { return static_cast<std::uint32_t>(town.m << 16 | s); }
+
+    std::uint32_t value(std::uint32_t key) const { return scores[key >> 16]; }
+    static std::size_t street(std::uint32_t key) { return key & 0xFFFF; }
+
+private:
+    std::vector<std::uint32_t> scores;
+};
+
+// By counted score, highest first, then by place, then by street: 17, 6 and 9 bits. What the score lacks of the greatest stands above, and
+// one more for a street that has not ranked the site, so that it comes after all places.
+class ByCountedScore {
+public:
+    void read(const Town&) {}
+
+    std::uint32_t ranked(const Town& town, std::size_t s, std::size_t j) const {
+        return (GREATEST - std::uint32_t{town.weights[s]} * town.scores[j]) << 15 | static_cast<std::uint32_t>(j << 9 | s);
+    }
+    std::uint32_t unranked(const Town&, std::size_t s) const { return (GREATEST + 1) << 15 | static_cast<std::uint32_t>(s); }
+
+    std::uint32_t value(std::uint32_t key) const { return GREATEST - std::min(key >> 15, GREATEST); }
+    static std::size_t street(std::uint32_t key) { return key & 0x1FF; }
+
+private:
+    static constexpr std::uint32_t GREATEST = 99 * 1000;
+};
+
 // The rounds of the balanced plan. For each site the first streets come by a partial sort of those that are free.
+template <bool Weighted>
 class RoundsPeer {
 public:
     // The sites in order of choice.
     std::vector<std::uint8_t> play(const Town& town, std::size_t k) {
+        by.read(town);
         fill(town);
-        scores.assign(town.scores.begin(), town.scores.end());
-        scores.push_back(0);
         free.resize(town.n);
         std::iota(free.begin(), free.end(), std::uint16_t{0});
         chosen.assign(town.m + 1, 0);
@@ -93,19 +138,19 @@ public:
     }
 
 private:
-    std::vector<std::uint32_t> keys; // by site; place above, street below, so that one comparison orders by both
-    std::vector<std::uint32_t> scores, line, best;
+    std::conditional_t<Weighted, ByCountedScore, ByPlace> by;
+    std::vector<std::uint32_t> keys; // by site
+    std::vector<std::uint32_t> line, best;
     std::vector<std::uint16_t> free;
     std::vector<std::uint8_t> chosen;
 
     void fill(const Town& town) {
         keys.resize(town.n * town.m);
         for (std::size_t a = 0; a < town.m; ++a)
-            for (std::size_t s = 0; s < town.n; ++s) keys[a * town.n + s] = static_cast<std::uint32_t>(town.m << 16 | s);
+            for (std::size_t s = 0; s < town.n; ++s) keys[a * town.n + s] = by.unranked(town, s);
         for (std::size_t s = 0; s < town.n; ++s) {
             const std::uint8_t* row = &town.rows[s * town.m];
-            for (std::size_t j = 0; j < town.m && row[j] != 0; ++j)
-                keys[(row[j] - 1u) * town.n + s] = static_cast<std::uint32_t>(j << 16 | s);
+            for (std::size_t j = 0; j < town.m && row[j] != 0; ++j) keys[(row[j] - 1u) * town.n + s] = by.ranked(town, s, j);
         }
     }
 
@@ -115,7 +160,7 @@ private:
         for (std::size_t i = 0; i < free.size(); ++i) line[i] = key[free[i]];
         if (q < line.size()) std::nth_element(line.begin(), line.begin() + static_cast<std::ptrdiff_t>(q), line.end());
         std::uint32_t sum = 0;
-        for (std::size_t i = 0; i < q; ++i) sum += scores[line[i] >> 16];
+        for (std::size_t i = 0; i < q; ++i) sum += by.value(line[i]);
         return sum;
     }
 
@@ -138,7 +183,7 @@ private:
     // The streets at the front of the best line are no longer free.
     void take(std::size_t q, std::size_t n) {
         std::vector<std::uint8_t> taken(n, 0);
-        for (std::size_t i = 0; i < q; ++i) taken[best[i] & 0xFFFF] = 1;
+        for (std::size_t i = 0; i < q; ++i) taken[by.street(best[i])] = 1;
         free.erase(std::remove_if(free.begin(), free.end(), [&](std::uint16_t s) { return taken[s] != 0; }), free.end());
     }
 };
@@ -183,20 +228,22 @@ private:
     Graph::Node site(std::size_t i) const { return graph.nodeFromId(static_cast<int>(n + i)); }
     Graph::Arc arc(std::size_t s, std::size_t i) const { return graph.arcFromId(static_cast<int>(s * k + i)); }
 
-    // The cost of a street at a site is its score there below 0; a site that it has not ranked costs 0.
+    // The cost of a street at a site is its counted score there below 0; a site that it has not ranked costs 0.
     void price(const Town& town, const std::vector<std::uint8_t>& sites) {
         std::vector<int> index(town.m + 1, -1);
         for (std::size_t i = 0; i < k; ++i) index[sites[i]] = static_cast<int>(i);
         for (std::size_t s = 0; s < n; ++s) {
             for (std::size_t i = 0; i < k; ++i) costs[arc(s, i)] = 0;
             const std::uint8_t* row = &town.rows[s * town.m];
+            const int weight = town.weights[s];
             for (std::size_t j = 0; j < town.m && row[j] != 0; ++j)
-                if (index[row[j]] >= 0) costs[arc(s, static_cast<std::size_t>(index[row[j]]))] = -static_cast<int>(town.scores[j]);
+                if (index[row[j]] >= 0) costs[arc(s, static_cast<std::size_t>(index[row[j]]))] = -weight * static_cast<int>(town.scores[j]);
         }
     }
 };
 
 // The balanced plan: the rounds choose the sites, the network divides the streets.
+template <bool Weighted>
 class BalancedPeer {
 public:
     BalancedPeer(std::size_t n, std::size_t k) : k(k), network(n, k) {}
@@ -210,6 +257,6 @@ public:
 
 private:
     std::size_t k;
-    RoundsPeer rounds;
+    RoundsPeer<Weighted> rounds;
     Network network;
 };

@@ -6,11 +6,11 @@
 #include <utility>
 #include <vector>
 
-// A survey as the library takes it: m scores, and a row of m bytes for each of n streets.
+// A survey as the library takes it: m scores, and a weight and a row of m bytes for each of n streets.
 struct Town {
     std::size_t n, m;
     std::vector<std::uint16_t> scores;
-    std::vector<std::uint8_t> rows;
+    std::vector<std::uint8_t> weights, rows;
 };
 
 // How the streets' lists come about.
@@ -86,13 +86,15 @@ inline std::vector<List> lists(Culture culture, std::size_t n, std::size_t m, Ra
     return all;
 }
 
-// A town with the usual table of scores, m - place.
-inline Town makeTown(Culture culture, std::size_t n, std::size_t m, std::uint64_t seed) {
+// A town with the usual table of scores, m - place, and weights from 1 to the top one. The weights are drawn last, so that the lists are the
+// same whatever the weights are.
+inline Town makeTown(Culture culture, std::size_t n, std::size_t m, std::uint64_t seed, std::size_t topWeight) {
     Random random(seed * 4 + static_cast<std::uint64_t>(culture));
-    Town town{n, m, std::vector<std::uint16_t>(m), std::vector<std::uint8_t>(n * m, 0)};
+    Town town{n, m, std::vector<std::uint16_t>(m), std::vector<std::uint8_t>(n), std::vector<std::uint8_t>(n * m, 0)};
     for (std::size_t j = 0; j < m; ++j) town.scores[j] = static_cast<std::uint16_t>(m - 1 - j);
     std::vector<List> all = lists(culture, n, m, random);
     for (std::size_t s = 0; s < n; ++s)
         for (std::size_t j = 0; j < all[s].size(); ++j) town.rows[s * m + j] = all[s][j];
+    for (std::uint8_t& weight : town.weights) weight = static_cast<std::uint8_t>(1 + random.below(topWeight));
     return town;
 }

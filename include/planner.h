@@ -9,8 +9,11 @@
  *
  * THE SURVEY. n streets (1 to 400), m sites (1 to 64), of which k are to be chosen (1 to m).
  *   scores   m numbers of 16 bits, the score of place 1 first: each 0 to 1,000 and none above the one before.
+ *   weights  n bytes, the household weight of street 1 first: each 1 to 99. A street's counted score for a site is its score times
+ *            its weight. Every score, total, choice and division here is by counted scores. A caller without weights lends ones.
  *   rows     n rows of m bytes, street 1 first. A row holds site numbers (1 to m), best first, none twice, then zeros. A row
  *            of zeros is an empty list. A site that a street has not ranked scores 0 for it.
+ *   A survey file has no weights, and the calls on files are given none.
  *   A site is one byte. Site 0 is no site: a street that goes to site 0 is unserved.
  *
  * SHARES. A balanced plan or division shares the n streets out over k sites, k at most n: n / k streets (rounded down) to each
@@ -24,8 +27,8 @@
  *   equal to its limit fits. An unserved street loads no site, but its numbers are tried like the others. A caller without loads
  *   lends zeros for the streets and PLANNER_MOST_LOAD for each site.
  *
- * PARAMETERS stand in one order everywhere: sizes (n, m, k, kind), scores, rows, what the call is about, what it fills. Only the
- * reader, which fills all of them, has its file in front. Any numbers may be passed: what is wrong with them is refused.
+ * PARAMETERS stand in one order everywhere: sizes (n, m, k, kind), scores, weights, rows, what the call is about, what it fills.
+ * Only the reader, which fills all of them, has its file in front. Any numbers may be passed: what is wrong with them is refused.
  *
  * BUFFERS. Each is a pointer and, behind it, the number of its elements. Where that number is 0 the pointer may be null; else it
  * is aligned for its type. A buffer or number that a function writes overlaps nothing else that is lent to the same call. The four
@@ -35,9 +38,10 @@
  * accepted, else the refusal's number times 2^32. Take it apart with planner_refusal(answer), 0 where the call is accepted, and
  * planner_total(answer), 0 where it is refused. A refused call leaves every buffer and every number it was lent as it was.
  *
- * REFUSALS. A call tries those numbers that concern what it is given, in this order: 1 to 6, then 8 over the scores, then the
- * rows by street and byte, where a byte is tried for 9, 10, 11; then 21, 17, 20, 18, then site by site 22 before 23, then 19, and
- * 7 last. The reader's order stands there. Where a call is given a list of sites, 3 and 5 are about the list's length.
+ * REFUSALS. A call tries those numbers that concern what it is given, in this order: 1 to 6, then 8 over the scores, 24 over the
+ * weights, then the rows by street and byte, where a byte is tried for 9, 10, 11; then 21, 17, 20, 18, then site by site 22 before
+ * 23, then 19, and 7 last. The reader's order stands there. Where a call is given a list of sites, 3 and 5 are about the list's
+ * length.
  *
  * A call uses no heap and keeps nothing from one call to the next: any number of threads may call at once. The stack that it needs
  * is named below, call by call.
@@ -53,12 +57,13 @@ extern "C" {
 #endif
 
 /* The year and the number of the last request that is in, 00 for the base. planner_version() gives that of the library linked. */
-#define PLANNER_VERSION 202604
+#define PLANNER_VERSION 202605
 
-/* The greatest sizes and score, and the greatest load of a street, which is also the greatest limit of a site. */
+/* The greatest sizes, score and weight, and the greatest load of a street, which is also the greatest limit of a site. */
 #define PLANNER_MAX_STREETS 400
 #define PLANNER_MAX_SITES 64
 #define PLANNER_TOP_SCORE 1000
+#define PLANNER_TOP_WEIGHT 99
 #define PLANNER_MOST_LOAD 1000000
 
 /* The lengths of the buffers that hold every survey and every file, in elements; the reader's have exactly these. */
@@ -82,15 +87,15 @@ extern "C" {
 #define PLANNER_STACK_ROW_SCORE 1024
 #define PLANNER_STACK_LIST_TOTAL 60928
 #define PLANNER_STACK_FREE_DIVISION 61440
-#define PLANNER_STACK_BALANCED_DIVISION 296448
+#define PLANNER_STACK_BALANCED_DIVISION 296960
 #define PLANNER_STACK_FREE_PLAN 61440
 #define PLANNER_STACK_BALANCED_PLAN 299008
-#define PLANNER_STACK_FLOOR 9216
+#define PLANNER_STACK_FLOOR 11264
 #define PLANNER_STACK_FREE_HAND_PLAN 5120
 #define PLANNER_STACK_BALANCED_HAND_PLAN 5120
-#define PLANNER_STACK_WRITE_FILE 3072
+#define PLANNER_STACK_WRITE_FILE 3584
 #define PLANNER_STACK_READ_FILE 1024
-#define PLANNER_STACK_REFUSED 9216
+#define PLANNER_STACK_REFUSED 11264
 #define PLANNER_STACK_MOST PLANNER_STACK_BALANCED_PLAN
 
 /*
@@ -128,7 +133,9 @@ extern "C" {
     /* the sender of a hand plan */ \
     REFUSAL(21, LOAD, "a load or limit above 1,000,000: correct the number") \
     REFUSAL(22, KILOGRAMS, "a site with more kilograms than its limit: move streets") \
-    REFUSAL(23, LITRES, "a site with more litres than its limit: move streets")
+    REFUSAL(23, LITRES, "a site with more litres than its limit: move streets") \
+    /* the survey team */ \
+    REFUSAL(24, WEIGHT, "a household weight outside 1 to 99: correct the weight")
 
 /* PLANNER_REFUSED_STREETS is 1, and so on. */
 enum planner_refusal_number {
@@ -138,7 +145,7 @@ enum planner_refusal_number {
 #undef PLANNER_NUMBERED
 };
 
-/* The refusal's number, 1 to 23; 0 where the call is accepted. */
+/* The refusal's number, 1 to 24; 0 where the call is accepted. */
 static inline uint32_t planner_refusal(uint64_t answer) {
     uint64_t upper = answer >> 32;
     return upper & 0xffffffffu;
@@ -184,11 +191,12 @@ uint32_t planner_version(void) PLANNER_MUST_USE;
 
 /*
  * Checks a survey.
- *   scores  m numbers, read      rows  n * m bytes, read
- * Answer: total 0. Refuses with 1, 2, 3, 6, 8, 9, 10 or 11.
+ *   scores  m numbers, read      weights  n bytes, read      rows  n * m bytes, read
+ * Answer: total 0. Refuses with 1, 2, 3, 6, 8, 24, 9, 10 or 11.
  */
 uint64_t planner_check_survey(size_t n, size_t m, size_t k,
                               const uint16_t *scores, size_t scores_len,
+                              const uint8_t *weights, size_t weights_len,
                               const uint8_t *rows, size_t rows_len) PLANNER_MUST_USE;
 
 /*
@@ -200,36 +208,41 @@ uint64_t planner_check_survey(size_t n, size_t m, size_t k,
 size_t planner_ranked_part(const uint8_t *row, size_t row_len) PLANNER_MUST_USE;
 
 /*
- * The score that one street's row gives one site.
+ * The counted score that one street's row gives one site.
  *   scores  m numbers, read      row  m bytes, read
- * Answer: the score, 0 where the row has not ranked the site. Refuses with 2, 6, 8, 9, 10, 11, or 17 for the site.
+ *   weight  the street's weight
+ * Answer: the score times the weight, 0 where the row has not ranked the site. Refuses with 2, 6, 8, 24, 9, 10, 11, or 17 for the
+ * site.
  */
 uint64_t planner_row_score(size_t m,
                            const uint16_t *scores, size_t scores_len,
+                           uint8_t weight,
                            const uint8_t *row, size_t row_len,
                            uint8_t site) PLANNER_MUST_USE;
 
 /*
- * The total of a list of sites: the sum over the streets of the best score that any of the sites gives.
- *   scores  m numbers, read      rows  n * m bytes, read
+ * The total of a list of sites: the sum over the streets of the best counted score that any of the sites gives.
+ *   scores  m numbers, read      weights  n bytes, read      rows  n * m bytes, read
  *   sites   the list, 1 to m bytes, each site once, read
- * Answer: that total. Refuses with 1, 2, 3, 6, 8, 9, 10, 11, 17 or 20.
+ * Answer: that total. Refuses with 1, 2, 3, 6, 8, 24, 9, 10, 11, 17 or 20.
  */
 uint64_t planner_list_total(size_t n, size_t m,
                             const uint16_t *scores, size_t scores_len,
+                            const uint8_t *weights, size_t weights_len,
                             const uint8_t *rows, size_t rows_len,
                             const uint8_t *sites, size_t sites_len) PLANNER_MUST_USE;
 
 /*
  * The free division over a list of sites: each street goes to the listed site that stands best in its list, and to site 0 if it
  * has ranked none of them.
- *   scores    m numbers, read      rows  n * m bytes, read
+ *   scores    m numbers, read      weights  n bytes, read      rows  n * m bytes, read
  *   sites     the list, 1 to m bytes, each site once, read
  *   division  n bytes, written: the site of each street
- * Answer: the total of the list. Refuses with 1, 2, 3, 6, 8, 9, 10, 11, 17 or 20.
+ * Answer: the total of the list. Refuses with 1, 2, 3, 6, 8, 24, 9, 10, 11, 17 or 20.
  */
 uint64_t planner_free_division(size_t n, size_t m,
                                const uint16_t *scores, size_t scores_len,
+                               const uint8_t *weights, size_t weights_len,
                                const uint8_t *rows, size_t rows_len,
                                const uint8_t *sites, size_t sites_len,
                                uint8_t *PLANNER_RESTRICT division, size_t division_len) PLANNER_MUST_USE;
@@ -238,14 +251,15 @@ uint64_t planner_free_division(size_t n, size_t m,
  * The best balanced division over a list of sites: each site gets its share, the first n % sites_len entries one street more than
  * the others, and no division in these shares totals more. Of several best ones it is the one that gives street 1 the lowest site
  * number, then street 2, and so on.
- *   scores    m numbers, read      rows  n * m bytes, read
+ *   scores    m numbers, read      weights  n bytes, read      rows  n * m bytes, read
  *   sites     the list, 1 to m bytes and at most n, each site once, read
  *   division  n bytes, written: the site of each street
- * Answer: the division's total, the sum over the streets of the score that each gives its site.
- * Refuses with 1, 2, 3, 5, 6, 8, 9, 10, 11, 17 or 20.
+ * Answer: the division's total, the sum over the streets of the counted score that each gives its site.
+ * Refuses with 1, 2, 3, 5, 6, 8, 24, 9, 10, 11, 17 or 20.
  */
 uint64_t planner_balanced_division(size_t n, size_t m,
                                    const uint16_t *scores, size_t scores_len,
+                                   const uint8_t *weights, size_t weights_len,
                                    const uint8_t *rows, size_t rows_len,
                                    const uint8_t *sites, size_t sites_len,
                                    uint8_t *PLANNER_RESTRICT division, size_t division_len) PLANNER_MUST_USE;
@@ -254,28 +268,32 @@ uint64_t planner_balanced_division(size_t n, size_t m,
  * The plan of a kind. The free plan (Chamberlin and Courant's rule, greedy): k rounds, each of which adds the site that raises the
  * total most, the lowest number on a tie; then each street goes to the chosen site that stands best in its list, and to site 0 if
  * it has ranked none. The balanced plan (Monroe's rule, greedy): k sites chosen in rounds, each of which deals its site n / k
- * streets, the first n % k rounds one more; then the best division over these sites in these shares, as planner_balanced_division
- * makes it.
+ * streets, the first n % k rounds one more, and of the streets left those that give the site the highest counted score, then the
+ * best place, then the lowest number; then the best division over these sites in these shares, as planner_balanced_division makes
+ * it.
  *   kind      PLANNER_FREE or PLANNER_BALANCED
- *   scores    m numbers, read      rows  n * m bytes, read
+ *   scores    m numbers, read      weights  n bytes, read      rows  n * m bytes, read
  *   division  n bytes, written: the site of each street
  *   chosen    k bytes, written: the sites in order of choice
  * Answer: the total of the chosen sites in a free plan, the division's total in a balanced one.
- * Refuses with 1, 2, 3, 4, 6, 8, 9, 10 or 11; a balanced plan also with 5, between 4 and 6.
+ * Refuses with 1, 2, 3, 4, 6, 8, 24, 9, 10 or 11; a balanced plan also with 5, between 4 and 6.
  */
 uint64_t planner_plan(size_t n, size_t m, size_t k, size_t kind,
                       const uint16_t *scores, size_t scores_len,
+                      const uint8_t *weights, size_t weights_len,
                       const uint8_t *rows, size_t rows_len,
                       uint8_t *PLANNER_RESTRICT division, size_t division_len,
                       uint8_t *PLANNER_RESTRICT chosen, size_t chosen_len) PLANNER_MUST_USE;
 
 /*
- * The floor: a total that the balanced plan of this survey reaches in any case.
- *   scores  m numbers, read      rows  n * m bytes, read
- * Answer: the floor. Refuses with 1, 2, 3, 5, 6, 8, 9, 10 or 11.
+ * The floor: a total that the balanced plan of this survey reaches in any case. It is the floor by plain scores, times the smallest
+ * weight.
+ *   scores  m numbers, read      weights  n bytes, read      rows  n * m bytes, read
+ * Answer: the floor. Refuses with 1, 2, 3, 5, 6, 8, 24, 9, 10 or 11.
  */
 uint64_t planner_floor(size_t n, size_t m, size_t k,
                        const uint16_t *scores, size_t scores_len,
+                       const uint8_t *weights, size_t weights_len,
                        const uint8_t *rows, size_t rows_len) PLANNER_MUST_USE;
 
 /*
@@ -283,16 +301,17 @@ uint64_t planner_floor(size_t n, size_t m, size_t k,
  * are, have n / k + 1 streets, and exactly k - n % k have n / k. In both no site is above its limits, and the streets give their
  * sites the claimed total.
  *   kind      PLANNER_FREE or PLANNER_BALANCED
- *   scores    m numbers, read      rows  n * m bytes, read
+ *   scores    m numbers, read      weights  n bytes, read      rows  n * m bytes, read
  *   division  n bytes, read: the site of each street, in a free plan 0 for none
  *   claimed   the total that is claimed for the plan
  *   kilograms, litres              n numbers each, read: what each street brings in a week
  *   kilogram_limits, litre_limits  m numbers each, read: how much of it each site can take
  * Answer: the plan's total, which the claimed one then is.
- * Refuses with 1, 2, 3, 4, 6, 8, 9, 10, 11, 21, 17, 18, 22, 23 or 19; a balanced plan also with 5, between 4 and 6.
+ * Refuses with 1, 2, 3, 4, 6, 8, 24, 9, 10, 11, 21, 17, 18, 22, 23 or 19; a balanced plan also with 5, between 4 and 6.
  */
 uint64_t planner_hand_plan(size_t n, size_t m, size_t k, size_t kind,
                            const uint16_t *scores, size_t scores_len,
+                           const uint8_t *weights, size_t weights_len,
                            const uint8_t *rows, size_t rows_len,
                            const uint8_t *division, size_t division_len,
                            uint32_t claimed,

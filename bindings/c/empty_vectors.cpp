@@ -19,30 +19,30 @@ typedef std::vector<uint32_t> Loads;
 
 // One street, one site.
 static const Scores scores(1, 5);
-static const Bytes rows(1, 1), sites(1, 1);
+static const Bytes rows(1, 1), weights(1, 1), sites(1, 1);
 static const Scores no_scores;
 static const Bytes none;
 static const Loads loads(1, 5), no_loads;
 
 static void plans() {
     Bytes division(1), chosen(1), empty;
-    uint64_t answer = planner_plan(1, 1, 1, PLANNER_FREE, scores.data(), scores.size(), rows.data(), rows.size(),
+    uint64_t answer = planner_plan(1, 1, 1, PLANNER_FREE, scores.data(), scores.size(), weights.data(), weights.size(), rows.data(), rows.size(),
                                    division.data(), division.size(), chosen.data(), chosen.size());
     expect(planner_refusal(answer) == PLANNER_ACCEPTED && planner_total(answer) == 5 && division[0] == 1 && chosen[0] == 1, "a plan");
-    answer = planner_plan(1, 1, 1, PLANNER_BALANCED, scores.data(), scores.size(), rows.data(), rows.size(),
+    answer = planner_plan(1, 1, 1, PLANNER_BALANCED, scores.data(), scores.size(), weights.data(), weights.size(), rows.data(), rows.size(),
                           empty.data(), empty.size(), chosen.data(), chosen.size());
     expect(planner_refusal(answer) == PLANNER_REFUSED_BUFFER_LENGTH, "a plan into an empty division");
-    answer = planner_balanced_division(1, 1, scores.data(), scores.size(), rows.data(), rows.size(), none.data(), none.size(),
-                                       division.data(), division.size());
+    answer = planner_balanced_division(1, 1, scores.data(), scores.size(), weights.data(), weights.size(), rows.data(), rows.size(),
+                                       none.data(), none.size(), division.data(), division.size());
     expect(planner_refusal(answer) == PLANNER_REFUSED_CHOSEN, "a division over no sites");
 }
 
 static void hand_plans() {
-    uint64_t answer = planner_hand_plan(1, 1, 1, PLANNER_FREE, scores.data(), scores.size(), rows.data(), rows.size(),
+    uint64_t answer = planner_hand_plan(1, 1, 1, PLANNER_FREE, scores.data(), scores.size(), weights.data(), weights.size(), rows.data(), rows.size(),
                                         sites.data(), sites.size(), 5, loads.data(), loads.size(), loads.data(), loads.size(),
                                         loads.data(), loads.size(), loads.data(), loads.size());
     expect(planner_refusal(answer) == PLANNER_ACCEPTED && planner_total(answer) == 5, "a hand plan with loads equal to their limits");
-    answer = planner_hand_plan(1, 1, 1, PLANNER_BALANCED, scores.data(), scores.size(), rows.data(), rows.size(),
+    answer = planner_hand_plan(1, 1, 1, PLANNER_BALANCED, scores.data(), scores.size(), weights.data(), weights.size(), rows.data(), rows.size(),
                                sites.data(), sites.size(), 5, no_loads.data(), no_loads.size(), no_loads.data(), no_loads.size(),
                                no_loads.data(), no_loads.size(), no_loads.data(), no_loads.size());
     expect(planner_refusal(answer) == PLANNER_REFUSED_BUFFER_LENGTH, "a hand plan without loads");
@@ -51,9 +51,10 @@ static void hand_plans() {
 static void numbers() {
     expect(planner_version() == PLANNER_VERSION, "the version");
     expect(planner_ranked_part(none.data(), none.size()) == 0, "the ranked part of an empty row");
-    uint64_t answer = planner_list_total(1, 1, no_scores.data(), no_scores.size(), rows.data(), rows.size(), sites.data(), sites.size());
+    uint64_t answer = planner_list_total(1, 1, no_scores.data(), no_scores.size(), weights.data(), weights.size(), rows.data(), rows.size(),
+                                         sites.data(), sites.size());
     expect(planner_refusal(answer) == PLANNER_REFUSED_BUFFER_LENGTH, "a total without scores");
-    answer = planner_check_survey(0, 0, 0, no_scores.data(), no_scores.size(), none.data(), none.size());
+    answer = planner_check_survey(0, 0, 0, no_scores.data(), no_scores.size(), none.data(), none.size(), none.data(), none.size());
     expect(planner_refusal(answer) == PLANNER_REFUSED_STREETS, "the check of an empty survey");
 }
 

@@ -12,10 +12,11 @@
 
 #include "planner.h"
 
-/* The town: its sizes and the kind of its plan, the score of each place, and a row of sites for each street. */
+/* The town: its sizes and the kind of its plan, the score of each place, and for each street a weight and a row of sites. A survey
+ * file has no weights: every street counts once. */
 static size_t n, m, k, kind;
 static uint16_t scores[PLANNER_SCORES_LENGTH];
-static uint8_t rows[PLANNER_ROWS_LENGTH];
+static uint8_t weights[PLANNER_MAX_STREETS], rows[PLANNER_ROWS_LENGTH];
 
 /* Its plan: the site of each street, and the chosen sites in order of choice. */
 static uint8_t division[PLANNER_MAX_STREETS], chosen[PLANNER_MAX_SITES];
@@ -70,7 +71,8 @@ int main(int argc, char **argv) {
 
     uint64_t answer = planner_read_file(file, length, &n, &m, &k, &kind, scores, PLANNER_SCORES_LENGTH, rows, PLANNER_ROWS_LENGTH);
     if (planner_refusal(answer) == PLANNER_ACCEPTED) {
-        answer = planner_plan(n, m, k, kind, scores, m, rows, n * m, division, n, chosen, k);
+        memset(weights, 1, n);
+        answer = planner_plan(n, m, k, kind, scores, m, weights, n, rows, n * m, division, n, chosen, k);
     }
     int status = 0;
     if (planner_refusal(answer) == PLANNER_ACCEPTED) {

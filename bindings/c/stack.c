@@ -131,12 +131,12 @@ static size_t test_accepted(const struct call *call) {
     size_t most = 0;
     for (size_t i = 0; i < TOWNS; i++) {
         const struct town *town = &towns[i];
-        char on[80];
+        char on[96];
         if (kind_of(call) == PLANNER_BALANCED && town->n < town->k) {
             continue;
         }
-        make_town(town->n, town->m, town->k, kind_of(call), town->lists);
-        snprintf(on, sizeof on, "town %zu (%zu streets, %zu sites, K %zu)", i, n, m, k);
+        make_town(town->n, town->m, town->k, kind_of(call), town->lists, town->top);
+        snprintf(on, sizeof on, "town %zu (%zu streets, %zu sites, K %zu, weights to %zu)", i, n, m, k, town->top);
         test(call, NULL, call->promise, run_measured, on);
         most = larger(most, told->depth);
         if (i == 0) {
@@ -149,7 +149,7 @@ static size_t test_accepted(const struct call *call) {
 /* The depth of a call that refuses, over all faults that it can meet. Both its own promise and that of a refusal have to do. */
 static size_t test_refused(const struct call *call) {
     size_t most = 0, bytes = call->promise < PLANNER_STACK_REFUSED ? call->promise : PLANNER_STACK_REFUSED;
-    make_town(towns[0].n, towns[0].m, towns[0].k, kind_of(call), towns[0].lists);
+    make_town(towns[0].n, towns[0].m, towns[0].k, kind_of(call), towns[0].lists, towns[0].top);
     for (size_t i = 0; i < FAULTS; i++) {
         if (call->refuses & faults[i].concerns) {
             test(call, &faults[i], bytes, run_measured, faults[i].name);

@@ -9,7 +9,7 @@
 /* What the calls are lent, with one element of room behind each buffer. All of it is static: a runner's own frame stays small. */
 static size_t n, m, k, kind;
 static uint16_t scores[PLANNER_SCORES_LENGTH + 1];
-static uint8_t rows[PLANNER_ROWS_LENGTH + 1], row[PLANNER_MAX_SITES + 1];
+static uint8_t weights[PLANNER_MAX_STREETS + 1], weight, rows[PLANNER_ROWS_LENGTH + 1], row[PLANNER_MAX_SITES + 1];
 static uint8_t sites[PLANNER_MAX_SITES + 1], site;
 static uint8_t hand[PLANNER_MAX_STREETS + 1];
 static uint32_t claimed;
@@ -17,7 +17,7 @@ static uint32_t kilograms[PLANNER_MAX_STREETS + 1], litres[PLANNER_MAX_STREETS +
 static uint32_t kilogram_limits[PLANNER_MAX_SITES + 1], litre_limits[PLANNER_MAX_SITES + 1];
 static uint8_t division[PLANNER_MAX_STREETS + 1], chosen[PLANNER_MAX_SITES + 1];
 static uint8_t file[PLANNER_FILE_LENGTH + 1], written[PLANNER_FILE_LENGTH];
-static size_t scores_len, rows_len, row_len, sites_len, division_len, chosen_len, file_len, written_len;
+static size_t scores_len, weights_len, rows_len, row_len, sites_len, division_len, chosen_len, file_len, written_len;
 static size_t kilograms_len, litres_len, kilogram_limits_len, litre_limits_len;
 
 /* What the reader fills. */
@@ -29,7 +29,7 @@ static uint8_t read_rows[PLANNER_ROWS_LENGTH];
 static uint64_t answer;
 
 static void run_check_survey(void) {
-    answer = planner_check_survey(n, m, k, scores, scores_len, rows, rows_len);
+    answer = planner_check_survey(n, m, k, scores, scores_len, weights, weights_len, rows, rows_len);
 }
 
 static void run_ranked_part(void) {
@@ -37,32 +37,32 @@ static void run_ranked_part(void) {
 }
 
 static void run_row_score(void) {
-    answer = planner_row_score(m, scores, scores_len, row, row_len, site);
+    answer = planner_row_score(m, scores, scores_len, weight, row, row_len, site);
 }
 
 static void run_list_total(void) {
-    answer = planner_list_total(n, m, scores, scores_len, rows, rows_len, sites, sites_len);
+    answer = planner_list_total(n, m, scores, scores_len, weights, weights_len, rows, rows_len, sites, sites_len);
 }
 
 static void run_free_division(void) {
-    answer = planner_free_division(n, m, scores, scores_len, rows, rows_len, sites, sites_len, division, division_len);
+    answer = planner_free_division(n, m, scores, scores_len, weights, weights_len, rows, rows_len, sites, sites_len, division, division_len);
 }
 
 static void run_balanced_division(void) {
-    answer = planner_balanced_division(n, m, scores, scores_len, rows, rows_len, sites, sites_len, division, division_len);
+    answer = planner_balanced_division(n, m, scores, scores_len, weights, weights_len, rows, rows_len, sites, sites_len, division, division_len);
 }
 
 static void run_plan(void) {
-    answer = planner_plan(n, m, k, kind, scores, scores_len, rows, rows_len, division, division_len, chosen, chosen_len);
+    answer = planner_plan(n, m, k, kind, scores, scores_len, weights, weights_len, rows, rows_len, division, division_len, chosen, chosen_len);
 }
 
 static void run_floor(void) {
-    answer = planner_floor(n, m, k, scores, scores_len, rows, rows_len);
+    answer = planner_floor(n, m, k, scores, scores_len, weights, weights_len, rows, rows_len);
 }
 
 static void run_hand_plan(void) {
-    answer = planner_hand_plan(n, m, k, kind, scores, scores_len, rows, rows_len, hand, division_len, claimed, kilograms, kilograms_len,
-                               litres, litres_len, kilogram_limits, kilogram_limits_len, litre_limits, litre_limits_len);
+    answer = planner_hand_plan(n, m, k, kind, scores, scores_len, weights, weights_len, rows, rows_len, hand, division_len, claimed,
+                               kilograms, kilograms_len, litres, litres_len, kilogram_limits, kilogram_limits_len, litre_limits, litre_limits_len);
 }
 
 static void run_write_file(void) {
@@ -73,13 +73,15 @@ static void run_read_file(void) {
     answer = planner_read_file(file, file_len, &read_n, &read_m, &read_k, &read_kind, read_scores, read_scores_len, read_rows, read_rows_len);
 }
 
-/* A set of refusals, by their numbers, and three members more for the buffers of some calls. */
+/* A set of refusals, by their numbers, and four members more for the buffers of some calls. */
 #define NUMBER(number) (UINT64_C(1) << (number))
+#define LENT_WEIGHTS NUMBER(60)
 #define LENT_LOADS NUMBER(61)
 #define LENT_DIVISION NUMBER(62)
 #define LENT_CHOSEN NUMBER(63)
 #define ROW (NUMBER(2) | NUMBER(6) | NUMBER(8) | NUMBER(9) | NUMBER(10) | NUMBER(11))
-#define SURVEY (ROW | NUMBER(1) | NUMBER(3))
+#define PLAIN (ROW | NUMBER(1) | NUMBER(3))
+#define SURVEY (PLAIN | LENT_WEIGHTS | NUMBER(24))
 #define LIST (SURVEY | NUMBER(17) | NUMBER(20))
 #define PLAN (SURVEY | NUMBER(4) | LENT_DIVISION | LENT_CHOSEN)
 #define LOADS (LENT_LOADS | NUMBER(21) | NUMBER(22) | NUMBER(23))
@@ -94,7 +96,7 @@ static const struct call {
 } calls[] = {
     {"CHECK_SURVEY", run_check_survey, PLANNER_STACK_CHECK_SURVEY, SURVEY},
     {"RANKED_PART", run_ranked_part, PLANNER_STACK_RANKED_PART, 0},
-    {"ROW_SCORE", run_row_score, PLANNER_STACK_ROW_SCORE, ROW | NUMBER(17)},
+    {"ROW_SCORE", run_row_score, PLANNER_STACK_ROW_SCORE, ROW | NUMBER(24) | NUMBER(17)},
     {"LIST_TOTAL", run_list_total, PLANNER_STACK_LIST_TOTAL, LIST},
     {"FREE_DIVISION", run_free_division, PLANNER_STACK_FREE_DIVISION, LIST | LENT_DIVISION},
     {"BALANCED_DIVISION", run_balanced_division, PLANNER_STACK_BALANCED_DIVISION, LIST | LENT_DIVISION | NUMBER(5)},
@@ -103,8 +105,8 @@ static const struct call {
     {"FLOOR", run_floor, PLANNER_STACK_FLOOR, SURVEY | NUMBER(5)},
     {"FREE_HAND_PLAN", run_hand_plan, PLANNER_STACK_FREE_HAND_PLAN, HAND},
     {"BALANCED_HAND_PLAN", run_hand_plan, PLANNER_STACK_BALANCED_HAND_PLAN, HAND | NUMBER(5)},
-    {"WRITE_FILE", run_write_file, PLANNER_STACK_WRITE_FILE, SURVEY | NUMBER(4) | NUMBER(7)},
-    {"READ_FILE", run_read_file, PLANNER_STACK_READ_FILE, (SURVEY | NUMBER(4) | FILE_RECORDS) & ~NUMBER(9)},
+    {"WRITE_FILE", run_write_file, PLANNER_STACK_WRITE_FILE, PLAIN | NUMBER(4) | NUMBER(7)},
+    {"READ_FILE", run_read_file, PLANNER_STACK_READ_FILE, (PLAIN | NUMBER(4) | FILE_RECORDS) & ~NUMBER(9)},
 };
 enum { CALLS = sizeof calls / sizeof calls[0] };
 
@@ -125,7 +127,7 @@ static uint8_t listed(enum lists lists, size_t street, size_t place) {
 }
 
 static void set_lengths(void) {
-    scores_len = m, rows_len = n * m, row_len = m, sites_len = k, division_len = n, chosen_len = k;
+    scores_len = m, weights_len = n, rows_len = n * m, row_len = m, sites_len = k, division_len = n, chosen_len = k;
     kilograms_len = litres_len = n, kilogram_limits_len = litre_limits_len = m;
     read_scores_len = PLANNER_SCORES_LENGTH, read_rows_len = PLANNER_ROWS_LENGTH;
 }
@@ -142,8 +144,9 @@ static void make_loads(void) {
     }
 }
 
-/* Makes a town and what goes with it: a kind, a list of sites, a hand plan with its total and loads, and the survey file. */
-static void make_town(size_t streets, size_t all, size_t choose, size_t of_kind, enum lists lists) {
+/* Makes a town and what goes with it: a kind, a list of sites, a hand plan with its total and loads, and the survey file. The
+ * weights of the streets run from 1 to the top one, again and again. */
+static void make_town(size_t streets, size_t all, size_t choose, size_t of_kind, enum lists lists, size_t top) {
     n = streets, m = all, k = choose, kind = of_kind;
     set_lengths();
     for (size_t place = 0; place < m; place++) {
@@ -152,14 +155,16 @@ static void make_town(size_t streets, size_t all, size_t choose, size_t of_kind,
     claimed = 0;
     for (size_t street = 0; street < n; street++) {
         hand[street] = (uint8_t)(street % k + 1);
+        weights[street] = (uint8_t)(street % top + 1);
         for (size_t place = 0; place < m; place++) {
             uint8_t named = listed(lists, street, place);
             rows[street * m + place] = named;
-            claimed += named == hand[street] ? scores[place] : 0;
+            claimed += named == hand[street] ? (uint32_t)weights[street] * scores[place] : 0;
         }
     }
     make_loads();
     memcpy(row, rows + (n - 1) * m, m);
+    weight = weights[n - 1];
     for (size_t i = 0; i < k; i++) {
         sites[i] = (uint8_t)(i + 1);
     }
@@ -168,29 +173,38 @@ static void make_town(size_t streets, size_t all, size_t choose, size_t of_kind,
     written_len = file_len;
 }
 
-/* The first town is the one that the faults are put into. */
+/* The first town is the one that the faults are put into. With weights that are all 1 the rounds sort by smaller keys. */
 static const struct town {
     size_t n, m, k;
     enum lists lists;
+    size_t top;
 } towns[] = {
-    {400, 64, 50, VARIED},
-    {400, 64, 8, VARIED},
-    {400, 64, 1, VARIED},
-    {400, 64, 64, VARIED},
-    {400, 64, 33, VARIED},
-    {400, 64, 7, VARIED},
-    {65, 64, 64, VARIED},
-    {64, 64, 64, VARIED},
-    {63, 64, 64, VARIED},
-    {400, 64, 50, ALIKE},
-    {400, 64, 8, ALIKE},
-    {400, 64, 33, ALIKE},
-    {400, 64, 50, THREE_NAMES},
-    {400, 64, 8, THREE_NAMES},
-    {400, 64, 33, THREE_NAMES},
-    {400, 64, 50, EMPTY},
-    {6, 4, 3, VARIED},
-    {10, 4, 3, VARIED},
-    {1, 1, 1, VARIED},
+    {400, 64, 50, VARIED, 99},
+    {400, 64, 8, VARIED, 99},
+    {400, 64, 1, VARIED, 99},
+    {400, 64, 64, VARIED, 99},
+    {400, 64, 33, VARIED, 99},
+    {400, 64, 7, VARIED, 99},
+    {65, 64, 64, VARIED, 99},
+    {64, 64, 64, VARIED, 99},
+    {63, 64, 64, VARIED, 99},
+    {400, 64, 50, ALIKE, 99},
+    {400, 64, 8, ALIKE, 99},
+    {400, 64, 33, ALIKE, 99},
+    {400, 64, 50, THREE_NAMES, 99},
+    {400, 64, 8, THREE_NAMES, 99},
+    {400, 64, 33, THREE_NAMES, 99},
+    {400, 64, 50, EMPTY, 99},
+    {6, 4, 3, VARIED, 99},
+    {10, 4, 3, VARIED, 99},
+    {1, 1, 1, VARIED, 99},
+    {400, 64, 50, VARIED, 1},
+    {400, 64, 8, VARIED, 1},
+    {400, 64, 33, VARIED, 1},
+    {400, 64, 50, ALIKE, 1},
+    {400, 64, 50, THREE_NAMES, 1},
+    {400, 64, 50, EMPTY, 1},
+    {400, 64, 50, VARIED, 2},
+    {400, 64, 50, ALIKE, 40},
 };
 enum { TOWNS = sizeof towns / sizeof towns[0] };

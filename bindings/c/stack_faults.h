@@ -42,11 +42,15 @@ static void unknown_kind(void) {
 }
 
 static void streets_too_few(void) {
-    n = division_len = kilograms_len = litres_len = 49, rows_len = n * m;
+    n = weights_len = division_len = kilograms_len = litres_len = 49, rows_len = n * m;
 }
 
 static void scores_short(void) {
     scores_len--, read_scores_len--;
+}
+
+static void weights_short(void) {
+    weights_len--;
 }
 
 static void rows_short(void) {
@@ -89,6 +93,14 @@ static void first_score_high(void) {
 static void last_score_rises(void) {
     scores[63] = 256;
     file[SCORES_AT + 126] = 0, file[SCORES_AT + 127] = 1;
+}
+
+static void first_weight_nothing(void) {
+    weights[0] = weight = 0;
+}
+
+static void last_weight_high(void) {
+    weights[n - 1] = weight = PLANNER_TOP_WEIGHT + 1;
 }
 
 static void gap_in_last_row(void) {
@@ -183,6 +195,7 @@ static const struct fault {
     {"kind 2", 4, NUMBER(4), unknown_kind},
     {"49 streets for 50 sites", 5, NUMBER(5), streets_too_few},
     {"one score less", 6, NUMBER(6), scores_short},
+    {"one weight less", 6, LENT_WEIGHTS, weights_short},
     {"one byte of rows less", 6, NUMBER(6), rows_short},
     {"a division of 401", 6, LENT_DIVISION, division_long},
     {"kilograms of 399 streets", 6, LENT_LOADS, kilograms_short},
@@ -193,6 +206,8 @@ static const struct fault {
     {"a file buffer one byte short", 7, NUMBER(7), written_short},
     {"first score above 1,000", 8, NUMBER(8), first_score_high},
     {"last score above the one before", 8, NUMBER(8), last_score_rises},
+    {"first weight 0", 24, NUMBER(24), first_weight_nothing},
+    {"last weight above 99", 24, NUMBER(24), last_weight_high},
     {"a zero before the last site of the last row", 9, NUMBER(9), gap_in_last_row},
     {"first site 65", 10, NUMBER(10), first_site_high},
     {"last site 65", 10, NUMBER(10), last_site_high},

@@ -1,10 +1,11 @@
 //! Bring-site plans: which container sites a town should pay for, and which site each street goes to.
 //!
 //! Each street of a town hands in a list of sites, best first. A place in a list has a score, and a street gives a site the score of the
-//! place at which it has ranked it, 0 where it has not. The planning office says how many sites, K, it can pay for. A plan is K sites, a
-//! site for each street, and the total of the scores that the streets give their sites. There are two kinds ([`Kind`]): in a *free* plan
-//! each street goes to the chosen site that it likes best, and in a *balanced* plan every site serves the same number of streets, or the
-//! sites chosen first serve one more where the streets don't divide evenly.
+//! place at which it has ranked it, 0 where it has not. Streets of many households may count for more: each has a weight, 1 to 99, by which
+//! its scores are multiplied. The planning office says how many sites, K, it can pay for. A plan is K sites, a site for each street, and the
+//! total of the scores that the streets give their sites. There are two kinds ([`Kind`]): in a *free* plan each street goes to the chosen
+//! site that it likes best, and in a *balanced* plan every site serves the same number of streets, or the sites chosen first serve one more
+//! where the streets don't divide evenly.
 //!
 //! The crate calls a library that is proved: every call, on every input, gives exactly what its rule says, or one numbered [`Refusal`].
 //!
@@ -35,10 +36,10 @@
 //! ```
 //!
 //! # What there is
-//! - [`Survey`] is the town, checked once when it is made. It plans ([`Survey::plan`]), divides the streets over sites that are given
-//!   ([`Survey::divide`]), totals a list of sites ([`Survey::list_total`]), says what a balanced plan reaches in any case
-//!   ([`Survey::floor`]) and tests a plan that was made by hand ([`Survey::test`]), also with what the streets bring to
-//!   their sites ([`Survey::test_with_loads`], [`Loads`]).
+//! - [`Survey`] is the town, checked once when it is made, with weights if it has any ([`Survey::with_weights`]). It plans
+//!   ([`Survey::plan`]), divides the streets over sites that are given ([`Survey::divide`]), totals a list of sites
+//!   ([`Survey::list_total`]), says what a balanced plan reaches in any case ([`Survey::floor`]) and tests a plan that was made by hand
+//!   ([`Survey::test`]), also with what the streets bring to their sites ([`Survey::test_with_loads`], [`Loads`]).
 //! - [`SurveyFile`] is a survey with the kind of plan and the K that are wanted, as bytes that are read and written.
 //! - [`Refusal`] is what is wrong with a call: its number, whose it is, and what to do.
 //! - [`slices`] are the library's functions over slices that the caller lends, and [`raw`] the same as C sees them.
@@ -46,7 +47,7 @@
 //! Streets and sites are numbered from 1, and site 0 is no site.
 //!
 //! # Stack and threads
-//! A balanced plan needs 292 KB of stack, a free one 60 KB, and any call that refuses 9 KB, which the main thread and the threads of
+//! A balanced plan needs 292 KB of stack, a free one 60 KB, and any call that refuses 11 KB, which the main thread and the threads of
 //! [`std::thread`] have; a thread that is made with less should have half a megabyte. No call keeps anything for the next: any number of
 //! threads may call at once, and every type here can be sent to another thread and shared.
 //!
@@ -79,6 +80,9 @@ pub const MAX_SITES: usize = 64;
 /// The highest score of a place.
 pub const TOP_SCORE: u16 = 1_000;
 
+/// The greatest household weight of a street; the smallest is 1.
+pub const TOP_WEIGHT: u8 = 99;
+
 /// The length of the scores that the reader of files is lent: those of the most sites.
 pub const SCORES_LENGTH: usize = MAX_SITES;
 
@@ -89,7 +93,7 @@ pub const ROWS_LENGTH: usize = MAX_STREETS * MAX_SITES;
 pub const FILE_LENGTH: usize = 27_739;
 
 /// The crate's version: the year, and in two digits the number of the last change request that is in.
-pub const VERSION: u32 = 202_604;
+pub const VERSION: u32 = 202_605;
 
 /// The version of the archive that is linked, which counts as [`VERSION`] does.
 ///

@@ -63,7 +63,7 @@ pub struct Plan {
     pub sites: Vec<u8>,
     /// The site of each street.
     pub division: Division,
-    /// The sum over the streets of the score that each gives its site.
+    /// The sum over the streets of the score that each gives its site ([`Survey::score`](crate::Survey::score)).
     pub total: u32,
 }
 

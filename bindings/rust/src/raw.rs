@@ -20,6 +20,8 @@ unsafe extern "C" {
         k: usize,
         scores: *const u16,
         scores_len: usize,
+        weights: *const u8,
+        weights_len: usize,
         rows: *const u8,
         rows_len: usize,
     ) -> u64;
@@ -27,8 +29,8 @@ unsafe extern "C" {
     /// The length of a row before its first zero. The number is that length, not a packed answer.
     pub fn planner_ranked_part(row: *const u8, row_len: usize) -> usize;
 
-    /// The score that one row gives one site.
-    pub fn planner_row_score(m: usize, scores: *const u16, scores_len: usize, row: *const u8, row_len: usize, site: u8) -> u64;
+    /// The score that one row gives one site, times the street's weight.
+    pub fn planner_row_score(m: usize, scores: *const u16, scores_len: usize, weight: u8, row: *const u8, row_len: usize, site: u8) -> u64;
 
     /// The total of a list of sites.
     pub fn planner_list_total(
@@ -36,6 +38,8 @@ unsafe extern "C" {
         m: usize,
         scores: *const u16,
         scores_len: usize,
+        weights: *const u8,
+        weights_len: usize,
         rows: *const u8,
         rows_len: usize,
         sites: *const u8,
@@ -48,6 +52,8 @@ unsafe extern "C" {
         m: usize,
         scores: *const u16,
         scores_len: usize,
+        weights: *const u8,
+        weights_len: usize,
         rows: *const u8,
         rows_len: usize,
         sites: *const u8,
@@ -62,6 +68,8 @@ unsafe extern "C" {
         m: usize,
         scores: *const u16,
         scores_len: usize,
+        weights: *const u8,
+        weights_len: usize,
         rows: *const u8,
         rows_len: usize,
         sites: *const u8,
@@ -78,6 +86,8 @@ unsafe extern "C" {
         kind: usize,
         scores: *const u16,
         scores_len: usize,
+        weights: *const u8,
+        weights_len: usize,
         rows: *const u8,
         rows_len: usize,
         division: *mut u8,
@@ -87,7 +97,17 @@ unsafe extern "C" {
     ) -> u64;
 
     /// The floor, a total that the balanced plan reaches in any case.
-    pub fn planner_floor(n: usize, m: usize, k: usize, scores: *const u16, scores_len: usize, rows: *const u8, rows_len: usize) -> u64;
+    pub fn planner_floor(
+        n: usize,
+        m: usize,
+        k: usize,
+        scores: *const u16,
+        scores_len: usize,
+        weights: *const u8,
+        weights_len: usize,
+        rows: *const u8,
+        rows_len: usize,
+    ) -> u64;
 
     /// Tests a hand-made plan of a kind, 0 free and 1 balanced, with its loads; its total.
     pub fn planner_hand_plan(
@@ -97,6 +117,8 @@ unsafe extern "C" {
         kind: usize,
         scores: *const u16,
         scores_len: usize,
+        weights: *const u8,
+        weights_len: usize,
         rows: *const u8,
         rows_len: usize,
         division: *const u8,

@@ -87,6 +87,7 @@ refusals! {
     21 Load: "a load or limit above 1,000,000", "sender of a hand plan", "correct the number";
     22 Kilograms: "a site with more kilograms than its limit", "sender of a hand plan", "move streets";
     23 Litres: "a site with more litres than its limit", "sender of a hand plan", "move streets";
+    24 Weight: "a household weight outside 1 to 99", "survey team", "correct the weight";
 }
 
 impl Refusal {

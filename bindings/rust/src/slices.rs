@@ -2,7 +2,9 @@
 //!
 //! Any numbers and any slices may be passed: each function checks all that it is given and gives its result, or the [`Refusal`] that comes
 //! first. A refused call leaves the lent slices as they were. Sizes are `n` streets, `m` sites and `k` sites to choose. `scores` are the
-//! `m` scores of the places, best first. `rows` are `n` rows of `m` bytes: the sites that a street has ranked, best first, then zeros.
+//! `m` scores of the places, best first. `weights` are the `n` household weights of the streets, 1 to 99, which all are 1 where every
+//! street counts alike: what a street gives a site is its score times its weight, and scores, totals and the floor are of these. `rows` are
+//! `n` rows of `m` bytes: the sites that a street has ranked, best first, then zeros. The functions for survey files take no weights.
 //!
 //! A function here has the parameters of the library's own, a kind as [`Kind`] and the loads of a hand plan together as [`Loads`], and gets
 //! more of them with it, while a program that uses the crate's types stays as it is.
@@ -10,11 +12,11 @@
 //! ```
 //! use planner::{slices, Kind, Refusal};
 //!
-//! let (scores, rows) = ([2, 1], [1, 2, 1, 0]);
+//! let (scores, weights, rows) = ([2, 1], [1, 1], [1, 2, 1, 0]);
 //! let (mut division, mut chosen) = ([0; 2], [0; 2]);
-//! assert_eq!(slices::plan(2, 2, 2, Kind::Balanced, &scores, &rows, &mut division, &mut chosen), Ok(3));
+//! assert_eq!(slices::plan(2, 2, 2, Kind::Balanced, &scores, &weights, &rows, &mut division, &mut chosen), Ok(3));
 //! assert_eq!((division, chosen), ([2, 1], [1, 2]));
-//! assert_eq!(slices::floor(2, 2, 3, &scores, &rows), Err(Refusal::Chosen));
+//! assert_eq!(slices::floor(2, 2, 3, &scores, &weights, &rows), Err(Refusal::Chosen));
 //! ```
 #![allow(clippy::too_many_arguments, reason = "a function here has the parameters of the library's own")]
 use crate::{raw, version, Kind, Loads, Refusal, VERSION};
@@ -46,11 +48,13 @@ fn unpacked(answer: u64) -> Result<u32, Refusal> {
 /// Checks a survey.
 ///
 /// # Errors
-/// In order of trial: 1 `Streets`, 2 `Sites`, 3 `Chosen`, 6 `BufferLength`, 8 `Score`, and byte by byte of the rows 9 `SiteAfterZero`,
-/// 10 `SiteNumber`, 11 `SiteTwice`.
-pub fn check_survey(n: usize, m: usize, k: usize, scores: &[u16], rows: &[u8]) -> Result<(), Refusal> {
-    // SAFETY: both pointers are a slice's own, beside its length, and are only read.
-    let answer = unsafe { raw::planner_check_survey(n, m, k, scores.as_ptr(), scores.len(), rows.as_ptr(), rows.len()) };
+/// In order of trial: 1 `Streets`, 2 `Sites`, 3 `Chosen`, 6 `BufferLength`, 8 `Score`, 24 `Weight`, and byte by byte of the rows
+/// 9 `SiteAfterZero`, 10 `SiteNumber`, 11 `SiteTwice`.
+pub fn check_survey(n: usize, m: usize, k: usize, scores: &[u16], weights: &[u8], rows: &[u8]) -> Result<(), Refusal> {
+    // SAFETY: the three pointers are a slice's own, beside its length, and are only read.
+    let answer = unsafe {
+        raw::planner_check_survey(n, m, k, scores.as_ptr(), scores.len(), weights.as_ptr(), weights.len(), rows.as_ptr(), rows.len())
+    };
     unpacked(answer).map(|_| ())
 }
 
@@ -62,25 +66,36 @@ pub fn ranked_part(row: &[u8]) -> &[u8] {
     &row[..length]
 }
 
-/// The score that one row of `m` bytes gives one site, 0 where it has not ranked it.
+/// The score that one row of `m` bytes gives one site, times the weight of its street; 0 where it has not ranked the site.
 ///
 /// # Errors
-/// In order of trial: 2 `Sites`, 6 `BufferLength`, 8 `Score`, byte by byte of the row 9 `SiteAfterZero`, 10 `SiteNumber`, 11 `SiteTwice`;
-/// then 17 `SiteOutside` for the site.
-pub fn row_score(m: usize, scores: &[u16], row: &[u8], site: u8) -> Result<u32, Refusal> {
+/// In order of trial: 2 `Sites`, 6 `BufferLength`, 8 `Score`, 24 `Weight`, byte by byte of the row 9 `SiteAfterZero`, 10 `SiteNumber`,
+/// 11 `SiteTwice`; then 17 `SiteOutside` for the site.
+pub fn row_score(m: usize, scores: &[u16], weight: u8, row: &[u8], site: u8) -> Result<u32, Refusal> {
     // SAFETY: both pointers are a slice's own, beside its length, and are only read.
-    unpacked(unsafe { raw::planner_row_score(m, scores.as_ptr(), scores.len(), row.as_ptr(), row.len(), site) })
+    unpacked(unsafe { raw::planner_row_score(m, scores.as_ptr(), scores.len(), weight, row.as_ptr(), row.len(), site) })
 }
 
-/// The total of a list of 1 to `m` sites: the sum over the streets of the best score that any of the sites has from it.
+/// The total of a list of 1 to `m` sites: the sum over the streets of the best score, times its weight, that any of the sites has from it.
 ///
 /// # Errors
-/// In order of trial: 1 `Streets`, 2 `Sites`, 3 `Chosen` for the list's length, 6 `BufferLength`, 8 `Score`, byte by byte of the rows
-/// 9 `SiteAfterZero`, 10 `SiteNumber`, 11 `SiteTwice`; then over the list 17 `SiteOutside` and 20 `ListedTwice`.
-pub fn list_total(n: usize, m: usize, scores: &[u16], rows: &[u8], sites: &[u8]) -> Result<u32, Refusal> {
-    // SAFETY: the three pointers are a slice's own, beside its length, and are only read.
+/// In order of trial: 1 `Streets`, 2 `Sites`, 3 `Chosen` for the list's length, 6 `BufferLength`, 8 `Score`, 24 `Weight`, byte by byte of the
+/// rows 9 `SiteAfterZero`, 10 `SiteNumber`, 11 `SiteTwice`; then over the list 17 `SiteOutside` and 20 `ListedTwice`.
+pub fn list_total(n: usize, m: usize, scores: &[u16], weights: &[u8], rows: &[u8], sites: &[u8]) -> Result<u32, Refusal> {
+    // SAFETY: the four pointers are a slice's own, beside its length, and are only read.
     unpacked(unsafe {
-        raw::planner_list_total(n, m, scores.as_ptr(), scores.len(), rows.as_ptr(), rows.len(), sites.as_ptr(), sites.len())
+        raw::planner_list_total(
+            n,
+            m,
+            scores.as_ptr(),
+            scores.len(),
+            weights.as_ptr(),
+            weights.len(),
+            rows.as_ptr(),
+            rows.len(),
+            sites.as_ptr(),
+            sites.len(),
+        )
     })
 }
 
@@ -89,6 +104,7 @@ pub(crate) fn division(
     kind: Kind,
     [n, m]: [usize; 2],
     scores: &[u16],
+    weights: &[u8],
     rows: &[u8],
     sites: &[u8],
     division: &mut [u8],
@@ -104,6 +120,8 @@ pub(crate) fn division(
             m,
             scores.as_ptr(),
             scores.len(),
+            weights.as_ptr(),
+            weights.len(),
             rows.as_ptr(),
             rows.len(),
             sites.as_ptr(),
@@ -119,8 +137,16 @@ pub(crate) fn division(
 ///
 /// # Errors
 /// As [`list_total`], where 6 `BufferLength` is tried for the division too.
-pub fn free_division(n: usize, m: usize, scores: &[u16], rows: &[u8], sites: &[u8], division: &mut [u8]) -> Result<u32, Refusal> {
-    self::division(Kind::Free, [n, m], scores, rows, sites, division)
+pub fn free_division(
+    n: usize,
+    m: usize,
+    scores: &[u16],
+    weights: &[u8],
+    rows: &[u8],
+    sites: &[u8],
+    division: &mut [u8],
+) -> Result<u32, Refusal> {
+    self::division(Kind::Free, [n, m], scores, weights, rows, sites, division)
 }
 
 /// The best balanced division over a list of 1 to `m` sites, at most `n`, into the `n` bytes of `division`: each of k sites gets `n / k`
@@ -129,16 +155,25 @@ pub fn free_division(n: usize, m: usize, scores: &[u16], rows: &[u8], sites: &[u
 ///
 /// # Errors
 /// As [`list_total`], where 5 `Share` is tried after 3, and 6 `BufferLength` for the division too.
-pub fn balanced_division(n: usize, m: usize, scores: &[u16], rows: &[u8], sites: &[u8], division: &mut [u8]) -> Result<u32, Refusal> {
-    self::division(Kind::Balanced, [n, m], scores, rows, sites, division)
+pub fn balanced_division(
+    n: usize,
+    m: usize,
+    scores: &[u16],
+    weights: &[u8],
+    rows: &[u8],
+    sites: &[u8],
+    division: &mut [u8],
+) -> Result<u32, Refusal> {
+    self::division(Kind::Balanced, [n, m], scores, weights, rows, sites, division)
 }
 
 /// The plan of a kind: the site of each street into the `n` bytes of `division`, the sites in order of choice into the `k` bytes of
 /// `chosen`. Gives the total.
 ///
 /// In a free plan each of `k` rounds adds the site that raises the total most, the lowest number on a tie; then the streets go to them as
-/// in [`free_division`]. In a balanced one each round deals its site `n / k` streets, the first `n % k` rounds one more; then the streets
-/// are divided over the sites as in [`balanced_division`].
+/// in [`free_division`]. In a balanced one each round deals its site `n / k` streets, the first `n % k` rounds one more: those that give it
+/// the highest score times weight, then the best place, then by number. Then the streets are divided over the sites as in
+/// [`balanced_division`].
 ///
 /// # Errors
 /// As [`check_survey`], where for a balanced plan 5 `Share` is tried after 3, and 6 `BufferLength` for the division and the chosen sites
@@ -149,6 +184,7 @@ pub fn plan(
     k: usize,
     kind: Kind,
     scores: &[u16],
+    weights: &[u8],
     rows: &[u8],
     division: &mut [u8],
     chosen: &mut [u8],
@@ -163,6 +199,8 @@ pub fn plan(
             kind.into(),
             scores.as_ptr(),
             scores.len(),
+            weights.as_ptr(),
+            weights.len(),
             rows.as_ptr(),
             rows.len(),
             division.as_mut_ptr(),
@@ -173,13 +211,15 @@ pub fn plan(
     })
 }
 
-/// The floor: a total that the balanced plan reaches in any case.
+/// The floor: a total that the balanced plan reaches in any case. It grows with the smallest weight.
 ///
 /// # Errors
 /// As [`check_survey`], where 5 `Share` is tried after 3.
-pub fn floor(n: usize, m: usize, k: usize, scores: &[u16], rows: &[u8]) -> Result<u32, Refusal> {
-    // SAFETY: both pointers are a slice's own, beside its length, and are only read.
-    unpacked(unsafe { raw::planner_floor(n, m, k, scores.as_ptr(), scores.len(), rows.as_ptr(), rows.len()) })
+pub fn floor(n: usize, m: usize, k: usize, scores: &[u16], weights: &[u8], rows: &[u8]) -> Result<u32, Refusal> {
+    // SAFETY: the three pointers are a slice's own, beside its length, and are only read.
+    unpacked(unsafe {
+        raw::planner_floor(n, m, k, scores.as_ptr(), scores.len(), weights.as_ptr(), weights.len(), rows.as_ptr(), rows.len())
+    })
 }
 
 /// Tests a hand-made plan of a kind: the site of each street, in a free plan 0 for none, the total that is claimed for it, and its
@@ -198,6 +238,7 @@ pub fn hand_plan(
     k: usize,
     kind: Kind,
     scores: &[u16],
+    weights: &[u8],
     rows: &[u8],
     division: &[u8],
     claimed: u32,
@@ -213,6 +254,8 @@ pub fn hand_plan(
             kind.into(),
             scores.as_ptr(),
             scores.len(),
+            weights.as_ptr(),
+            weights.len(),
             rows.as_ptr(),
             rows.len(),
             division.as_ptr(),
@@ -234,7 +277,7 @@ pub fn hand_plan(
 /// file's length, and changes no byte behind it.
 ///
 /// # Errors
-/// As [`check_survey`]; last 7 `FileBufferShort`.
+/// As [`check_survey`], without 24; last 7 `FileBufferShort`.
 pub fn write_file(n: usize, m: usize, k: usize, kind: Kind, scores: &[u16], rows: &[u8], file: &mut [u8]) -> Result<usize, Refusal> {
     // SAFETY: the three pointers are a slice's own, beside its length; only the file is written, and it is borrowed for this call alone.
     let answer = unsafe {

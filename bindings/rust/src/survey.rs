@@ -1,10 +1,11 @@
 //! A town's survey.
 use crate::{slices, HandPlan, Kind, Loads, Plan, Refusal, MAX_SITES, MAX_STREETS};
 
-/// A town's survey: the score of each place in a list, and the ranked list of each street.
+/// A town's survey: the score of each place in a list, and the ranked list and the household weight of each street.
 ///
 /// There are 1 to 400 streets and 1 to 64 sites. The scores, one for each site, are at most 1,000 and never rise from one place to the
-/// next. A list names no site twice, and may name fewer than all of them, or none.
+/// next. A list names no site twice, and may name fewer than all of them, or none. A weight is 1 to 99; every street has 1 unless others
+/// are given ([`Survey::with_weights`]).
 ///
 /// A survey is checked once, when it is made, so that a `Survey` is one that the library accepts. The library's calls check it again, as
 /// they do with all that they are given, but can then refuse only what the call itself is about, such as K.
@@ -27,12 +28,18 @@ use crate::{slices, HandPlan, Kind, Loads, Plan, Refusal, MAX_SITES, MAX_STREETS
 #[must_use]
 pub struct Survey {
     scores: Vec<u16>,
+    weights: Vec<u8>,
     rows: Vec<u8>,
+}
+
+/// The weights of streets that all count alike. More of them than there can be are refused before the weights are looked at.
+fn ones(streets: usize) -> Vec<u8> {
+    vec![1; streets.min(MAX_STREETS)]
 }
 
 impl Survey {
     /// A survey from the scores of the places, best first, and each street's list of sites, best first. There are as many sites as scores.
-    /// Zeros at the end of a list count as nothing.
+    /// Zeros at the end of a list count as nothing. Every street has a weight of 1.
     ///
     /// # Errors
     /// In order of trial: 15 [`ListLength`](Refusal::ListLength) where a list has more entries than there are sites,
@@ -52,12 +59,13 @@ impl Survey {
                 rows.resize((street + 1) * m, 0);
             }
         }
-        slices::check_survey(n, m, 1, scores, &rows)?;
-        Ok(Survey { scores: scores.to_vec(), rows })
+        let weights = ones(n);
+        slices::check_survey(n, m, 1, scores, &weights, &rows)?;
+        Ok(Survey { scores: scores.to_vec(), weights, rows })
     }
 
     /// A survey from the scores of the places, best first, and a row for each street, one behind the other: as many bytes as there are
-    /// scores, which are its list of sites, best first, and then zeros.
+    /// scores, which are its list of sites, best first, and then zeros. Every street has a weight of 1.
     ///
     /// # Errors
     /// In order of trial: 1 [`Streets`](Refusal::Streets) where there are no rows or too many, 2 [`Sites`](Refusal::Sites),
@@ -69,13 +77,44 @@ impl Survey {
         // a part of a row is no street more, but where it stands alone it is the one row that is not whole
         let part = usize::from(!rows.is_empty());
         let n = rows.len().checked_div(m).map_or(1, |whole| whole.max(part));
-        slices::check_survey(n, m, 1, scores, rows)?;
-        Ok(Survey { scores: scores.to_vec(), rows: rows.to_vec() })
+        let weights = ones(n);
+        slices::check_survey(n, m, 1, scores, &weights, rows)?;
+        Ok(Survey { scores: scores.to_vec(), weights, rows: rows.to_vec() })
     }
 
-    /// The survey of a file that was read, in which the reader has tried all that the check tries.
+    /// This survey with a household weight for each street, 1 to 99. What a street gives a site is then its score times its weight, in
+    /// every score, total, choice of sites and division. With all weights 1, as a survey is made, each plan is by plain scores.
+    ///
+    /// ```
+    /// use planner::{Kind, Refusal, Survey};
+    ///
+    /// # fn main() -> Result<(), Refusal> {
+    /// let survey = Survey::new(&[2, 1, 0], &[&[1, 2, 3][..], &[1, 3, 2], &[2, 1], &[3, 2, 1]])?;
+    /// assert_eq!(survey.plan(Kind::Free, 1)?.sites, [1]);
+    ///
+    /// // street 4 has as many households as nine of the others
+    /// let survey = survey.with_weights(&[1, 1, 1, 9])?;
+    /// assert_eq!(survey.score(4, 3), Some(18));
+    /// let plan = survey.plan(Kind::Free, 1)?;
+    /// assert_eq!((&plan.sites[..], plan.total), (&[3][..], 19));
+    ///
+    /// assert_eq!(survey.clone().with_weights(&[1, 1, 1, 100]), Err(Refusal::Weight));
+    /// assert_eq!(survey.with_weights(&[1, 1, 1]), Err(Refusal::BufferLength));
+    /// # Ok(())
+    /// # }
+    /// ```
+    ///
+    /// # Errors
+    /// In order of trial: 6 [`BufferLength`](Refusal::BufferLength) where there are more or fewer weights than streets,
+    /// 24 [`Weight`](Refusal::Weight).
+    pub fn with_weights(self, weights: &[u8]) -> Result<Survey, Refusal> {
+        slices::check_survey(self.streets(), self.sites(), 1, &self.scores, weights, &self.rows)?;
+        Ok(Survey { weights: weights.to_vec(), ..self })
+    }
+
+    /// The survey of a file that was read, in which the reader has tried all that the check tries. A file has no weights: they are all 1.
     pub(crate) fn of_file(scores: Vec<u16>, rows: Vec<u8>) -> Survey {
-        Survey { scores, rows }
+        Survey { weights: ones(rows.len() / scores.len()), scores, rows }
     }
 
     /// The number of streets.
@@ -96,6 +135,12 @@ impl Survey {
         &self.scores
     }
 
+    /// The household weight of each street.
+    #[must_use]
+    pub fn weights(&self) -> &[u8] {
+        &self.weights
+    }
+
     /// The rows, one behind the other: for each street as many bytes as there are sites, its list and then zeros.
     #[must_use]
     pub fn rows(&self) -> &[u8] {
@@ -112,28 +157,30 @@ impl Survey {
         self.rows.chunks_exact(self.sites()).nth(street.checked_sub(1)?)
     }
 
-    /// The score that a street gives a site: that of the site's place in its list, 0 where it has not ranked it. `None` where there is no
-    /// such street or no such site.
+    /// The score that a street gives a site: that of the site's place in its list, times the street's weight, 0 where it has not ranked it.
+    /// `None` where there is no such street or no such site.
     #[must_use]
     pub fn score(&self, street: usize, site: u8) -> Option<u32> {
-        slices::row_score(self.sites(), &self.scores, self.row(street)?, site).ok()
+        let row = self.row(street)?;
+        slices::row_score(self.sites(), &self.scores, self.weights[street - 1], row, site).ok()
     }
 
-    /// The total of a list of sites: the sum over the streets of the best score that any of the sites has from it.
+    /// The total of a list of sites: the sum over the streets of the best [`score`](Survey::score) that any of the sites has from it.
     ///
     /// # Errors
     /// In order of trial: 3 [`Chosen`](Refusal::Chosen) where the list is empty or too long, 17 [`SiteOutside`](Refusal::SiteOutside),
     /// 20 [`ListedTwice`](Refusal::ListedTwice).
     pub fn list_total(&self, sites: &[u8]) -> Result<u32, Refusal> {
-        slices::list_total(self.streets(), self.sites(), &self.scores, &self.rows, sites)
+        slices::list_total(self.streets(), self.sites(), &self.scores, &self.weights, &self.rows, sites)
     }
 
     /// The plan with K sites.
     ///
     /// A free plan is made in K rounds, each of which adds the site that raises the total most. With total S, and T the total of any other
     /// K sites, K^K (T - S) is at most (K - 1)^K T. A balanced plan is made in K rounds too, each of which deals its site a share of the
-    /// streets, one street more in the first rounds where they don't divide evenly ([`Kind::Balanced`]); no other division over its sites
-    /// in their shares totals more, and the total is at least the [`floor`](Survey::floor).
+    /// streets, those that give it the highest [`score`](Survey::score), and one street more in the first rounds where they don't divide
+    /// evenly ([`Kind::Balanced`]); no other division over its sites in their shares totals more, and the total is at least the
+    /// [`floor`](Survey::floor).
     ///
     /// # Errors
     /// In order of trial: 3 [`Chosen`](Refusal::Chosen), and for a balanced plan 5 [`Share`](Refusal::Share) where K is above the number of
@@ -142,7 +189,8 @@ impl Survey {
         let mut division = vec![0; self.streets()];
         // a K above the number of sites is refused before the lengths are looked at
         let mut sites = vec![0; k.min(self.sites())];
-        let total = slices::plan(self.streets(), self.sites(), k, kind, &self.scores, &self.rows, &mut division, &mut sites)?;
+        let total =
+            slices::plan(self.streets(), self.sites(), k, kind, &self.scores, &self.weights, &self.rows, &mut division, &mut sites)?;
         Ok(Plan { sites, division: division.into(), total })
     }
 
@@ -175,16 +223,16 @@ impl Survey {
     pub fn divide(&self, kind: Kind, sites: &[u8]) -> Result<Plan, Refusal> {
         let mut division = vec![0; self.streets()];
         let sizes = [self.streets(), self.sites()];
-        let total = slices::division(kind, sizes, &self.scores, &self.rows, sites, &mut division)?;
+        let total = slices::division(kind, sizes, &self.scores, &self.weights, &self.rows, sites, &mut division)?;
         Ok(Plan { sites: sites.to_vec(), division: division.into(), total })
     }
 
-    /// The floor: a total that the balanced plan with K sites reaches in any case.
+    /// The floor: a total that the balanced plan with K sites reaches in any case. It grows with the smallest weight.
     ///
     /// # Errors
     /// In order of trial: 3 [`Chosen`](Refusal::Chosen), 5 [`Share`](Refusal::Share) where K is above the number of streets.
     pub fn floor(&self, k: usize) -> Result<u32, Refusal> {
-        slices::floor(self.streets(), self.sites(), k, &self.scores, &self.rows)
+        slices::floor(self.streets(), self.sites(), k, &self.scores, &self.weights, &self.rows)
     }
 
     /// Tests a plan that was made by hand and gives its total, which the claimed one then is. A free plan has to use at most K sites, and
@@ -222,6 +270,6 @@ impl Survey {
     /// [`Kilograms`](Refusal::Kilograms) before 23 [`Litres`](Refusal::Litres) come between 18 and 19.
     pub fn test_with_loads(&self, plan: &HandPlan, loads: Loads<'_>) -> Result<u32, Refusal> {
         let (n, m, division) = (self.streets(), self.sites(), plan.division().as_bytes());
-        slices::hand_plan(n, m, plan.k(), plan.kind(), &self.scores, &self.rows, division, plan.claimed(), loads)
+        slices::hand_plan(n, m, plan.k(), plan.kind(), &self.scores, &self.weights, &self.rows, division, plan.claimed(), loads)
     }
 }

@@ -12,7 +12,8 @@ use crate::{slices, Kind, Plan, Refusal, Survey, FILE_LENGTH, ROWS_LENGTH, SCORE
 /// | `ST`, once for each street | its number (2 bytes, from 1 on), how many sites it has ranked (1 byte), their numbers, best first |
 /// | `EN` | the end; nothing follows |
 ///
-/// Reading what was written gives back the survey, and writing what was read gives back the file.
+/// Reading what was written gives back the survey, and writing what was read gives back the file. A file has no weights: those of a survey
+/// are left out where it is written, and a survey that is read has a weight of 1 for each street.
 ///
 /// ```
 /// use planner::{Kind, Refusal, Survey, SurveyFile};

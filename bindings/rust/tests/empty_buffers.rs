@@ -8,6 +8,7 @@ use std::ptr;
 #[derive(Clone, Debug, PartialEq)]
 struct Lent {
     scores: Vec<u16>,
+    weights: Vec<u8>,
     rows: Vec<u8>,
     row: Vec<u8>,
     sites: Vec<u8>,
@@ -26,6 +27,7 @@ struct Lent {
 fn lent() -> Lent {
     Lent {
         scores: vec![2, 1, 0],
+        weights: vec![1; 4],
         rows: vec![1, 2, 3, 1, 3, 2, 2, 1, 0, 3, 2, 1],
         row: vec![2, 1, 0],
         sites: vec![1, 2],
@@ -74,9 +76,10 @@ struct Call {
     run: fn(Empty, &mut Lent) -> u64,
 }
 
-/// A function with the numbers before its buffers and what follows them, which may be buffers again.
+/// A function with the numbers before its buffers and what follows them, which may be buffers again, and a last number.
 macro_rules! call {
-    ($function:ident: $($number:expr)*; $($buffer:ident $refusal:literal)*; $($last:expr)* $(; $($behind:ident $of_behind:literal)*)?) => {
+    ($function:ident: $($number:expr)*; $($buffer:ident $refusal:literal)*; $($last:expr)*
+        $(; $($behind:ident $of_behind:literal)* $(; $end:expr)?)?) => {
         Call {
             name: stringify!($function $($number)*),
             refusals: &[$((stringify!($buffer), $refusal),)* $($((stringify!($behind), $of_behind),)*)?],
@@ -86,7 +89,7 @@ macro_rules! call {
                     $($number,)*
                     $(empty.start(stringify!($buffer), &mut lent.$buffer), empty.length(stringify!($buffer), lent.$buffer.len()),)*
                     $($last,)*
-                    $($(empty.start(stringify!($behind), &mut lent.$behind), empty.length(stringify!($behind), lent.$behind.len()),)*)?
+                    $($(empty.start(stringify!($behind), &mut lent.$behind), empty.length(stringify!($behind), lent.$behind.len()),)* $($end,)?)?
                 ) as u64
             },
         }
@@ -94,17 +97,17 @@ macro_rules! call {
 }
 
 const CALLS: [Call; 13] = [
-    call!(planner_check_survey: 4 3 2; scores 6 rows 6;),
+    call!(planner_check_survey: 4 3 2; scores 6 weights 6 rows 6;),
     call!(planner_ranked_part: ; row 0;),
-    call!(planner_row_score: 3; scores 6 row 6; 1),
-    call!(planner_list_total: 4 3; scores 6 rows 6 sites 3;),
-    call!(planner_free_division: 4 3; scores 6 rows 6 sites 3 division 6;),
-    call!(planner_balanced_division: 4 3; scores 6 rows 6 sites 3 division 6;),
-    call!(planner_plan: 4 3 2 0; scores 6 rows 6 division 6 chosen 6;),
-    call!(planner_plan: 4 3 2 1; scores 6 rows 6 division 6 chosen 6;),
-    call!(planner_floor: 4 3 2; scores 6 rows 6;),
-    call!(planner_hand_plan: 4 3 2 0; scores 6 rows 6 division 6; 7; kilograms 6 litres 6 kilogram_limits 6 litre_limits 6),
-    call!(planner_hand_plan: 4 3 2 1; scores 6 rows 6 division 6; 7; kilograms 6 litres 6 kilogram_limits 6 litre_limits 6),
+    call!(planner_row_score: 3; scores 6; 1; row 6; 1),
+    call!(planner_list_total: 4 3; scores 6 weights 6 rows 6 sites 3;),
+    call!(planner_free_division: 4 3; scores 6 weights 6 rows 6 sites 3 division 6;),
+    call!(planner_balanced_division: 4 3; scores 6 weights 6 rows 6 sites 3 division 6;),
+    call!(planner_plan: 4 3 2 0; scores 6 weights 6 rows 6 division 6 chosen 6;),
+    call!(planner_plan: 4 3 2 1; scores 6 weights 6 rows 6 division 6 chosen 6;),
+    call!(planner_floor: 4 3 2; scores 6 weights 6 rows 6;),
+    call!(planner_hand_plan: 4 3 2 0; scores 6 weights 6 rows 6 division 6; 7; kilograms 6 litres 6 kilogram_limits 6 litre_limits 6),
+    call!(planner_hand_plan: 4 3 2 1; scores 6 weights 6 rows 6 division 6; 7; kilograms 6 litres 6 kilogram_limits 6 litre_limits 6),
     call!(planner_write_file: 4 3 2 1; scores 6 rows 6 file 7;),
     Call { name: "planner_read_file", refusals: &[("file", 12), ("read_scores", 6), ("read_rows", 6)], run: read_file },
 ];

@@ -69,6 +69,7 @@ fn the_header_has_the_constants() {
         ("PLANNER_MAX_STREETS", planner::MAX_STREETS),
         ("PLANNER_MAX_SITES", planner::MAX_SITES),
         ("PLANNER_TOP_SCORE", planner::TOP_SCORE.into()),
+        ("PLANNER_TOP_WEIGHT", planner::TOP_WEIGHT.into()),
         ("PLANNER_MOST_LOAD", Loads::MOST as usize),
         ("PLANNER_SCORES_LENGTH", planner::SCORES_LENGTH),
         ("PLANNER_ROWS_LENGTH", planner::ROWS_LENGTH),

@@ -17,7 +17,7 @@ fn unpacked(answer: u64) -> Result<u32, Refusal> {
 
 pub fn plan(t: &Town, kind: usize, division: &mut [u8], chosen: &mut [u8]) -> Result<u32, Refusal> {
     if let Ok(kind) = Kind::try_from(kind) {
-        return slices::plan(t.n, t.m, t.k, kind, &t.scores, &t.rows, division, chosen);
+        return slices::plan(t.n, t.m, t.k, kind, &t.scores, &t.weights, &t.rows, division, chosen);
     }
     // SAFETY: each pointer is a slice's own, beside its length; the division and the chosen sites are borrowed for this call alone.
     unpacked(unsafe {
@@ -28,6 +28,8 @@ pub fn plan(t: &Town, kind: usize, division: &mut [u8], chosen: &mut [u8]) -> Re
             kind,
             t.scores.as_ptr(),
             t.scores.len(),
+            t.weights.as_ptr(),
+            t.weights.len(),
             t.rows.as_ptr(),
             t.rows.len(),
             division.as_mut_ptr(),
@@ -40,7 +42,7 @@ pub fn plan(t: &Town, kind: usize, division: &mut [u8], chosen: &mut [u8]) -> Re
 
 pub fn hand_plan(t: &Town, kind: usize, division: &[u8], claimed: u32, loads: &Loads) -> Result<u32, Refusal> {
     if let Ok(kind) = Kind::try_from(kind) {
-        return slices::hand_plan(t.n, t.m, t.k, kind, &t.scores, &t.rows, division, claimed, lent(loads));
+        return slices::hand_plan(t.n, t.m, t.k, kind, &t.scores, &t.weights, &t.rows, division, claimed, lent(loads));
     }
     // SAFETY: each pointer is a slice's own, beside its length, and is only read.
     unpacked(unsafe {
@@ -51,6 +53,8 @@ pub fn hand_plan(t: &Town, kind: usize, division: &[u8], claimed: u32, loads: &L
             kind,
             t.scores.as_ptr(),
             t.scores.len(),
+            t.weights.as_ptr(),
+            t.weights.len(),
             t.rows.as_ptr(),
             t.rows.len(),
             division.as_ptr(),

@@ -46,7 +46,7 @@ pub fn best_division(values: &[Vec<u32>], sites: &[u8]) -> Vec<u8> {
 }
 
 pub fn check_survey(t: &Town) -> u8 {
-    same(slices::check_survey(t.n, t.m, t.k, &t.scores, &t.rows), refusals::check(t), "check_survey", t)
+    same(slices::check_survey(t.n, t.m, t.k, &t.scores, &t.weights, &t.rows), refusals::check(t), "check_survey", t)
 }
 
 pub fn ranked_part(row: &[u8]) {
@@ -55,19 +55,19 @@ pub fn ranked_part(row: &[u8]) {
     assert_eq!(part.as_ptr(), row.as_ptr());
 }
 
-pub fn row_score(t: &Town, row: &[u8], site: u8) -> u8 {
-    let plain = refusals::row_score(t, row, site).map(|()| survey::score(&t.scores, row, site));
-    same(slices::row_score(t.m, &t.scores, row, site), plain, "row_score", t)
+pub fn row_score(t: &Town, weight: u8, row: &[u8], site: u8) -> u8 {
+    let plain = refusals::row_score(t, weight, row, site).map(|()| u32::from(weight) * survey::score(&t.scores, row, site));
+    same(slices::row_score(t.m, &t.scores, weight, row, site), plain, "row_score", t)
 }
 
 pub fn list_total(t: &Town, sites: &[u8]) -> u8 {
     let plain = refusals::list_total(t, sites).map(|()| free::total(&t.values(), sites));
-    same(slices::list_total(t.n, t.m, &t.scores, &t.rows, sites), plain, "list_total", t)
+    same(slices::list_total(t.n, t.m, &t.scores, &t.weights, &t.rows, sites), plain, "list_total", t)
 }
 
 pub fn free_division(t: &Town, sites: &[u8], length: usize) -> u8 {
     let mut buffer = vec![OLD; length];
-    let ours = slices::free_division(t.n, t.m, &t.scores, &t.rows, sites, &mut buffer);
+    let ours = slices::free_division(t.n, t.m, &t.scores, &t.weights, &t.rows, sites, &mut buffer);
     let tried = refusals::free_division(t, sites, length);
     let new = tried.is_ok().then(|| free::divide(t, sites));
     held(&buffer, new.as_deref(), "free_division", t);
@@ -76,7 +76,7 @@ pub fn free_division(t: &Town, sites: &[u8], length: usize) -> u8 {
 
 pub fn balanced_division(t: &Town, sites: &[u8], length: usize) -> u8 {
     let mut buffer = vec![OLD; length];
-    let ours = slices::balanced_division(t.n, t.m, &t.scores, &t.rows, sites, &mut buffer);
+    let ours = slices::balanced_division(t.n, t.m, &t.scores, &t.weights, &t.rows, sites, &mut buffer);
     let tried = refusals::balanced_division(t, sites, length);
     let new = tried.is_ok().then(|| best_division(&t.values(), sites));
     held(&buffer, new.as_deref(), "balanced_division", t);
@@ -112,7 +112,7 @@ pub fn plan(t: &Town, kind: usize, lengths: Buffers) -> u8 {
 
 pub fn floor(t: &Town) -> u8 {
     let plain = refusals::floor(t).map(|()| balanced::floor(t));
-    same(slices::floor(t.n, t.m, t.k, &t.scores, &t.rows), plain, "floor", t)
+    same(slices::floor(t.n, t.m, t.k, &t.scores, &t.weights, &t.rows), plain, "floor", t)
 }
 
 pub fn hand_plan(t: &Town, kind: usize, division: &[u8], claimed: u32, loads: &Loads) -> u8 {
@@ -181,7 +181,7 @@ pub fn everything(t: &Town, sites: &[u8], kind: usize) {
     assert_eq!(check_survey(t), 0);
     t.rows.chunks(t.m).for_each(ranked_part);
     for site in [0, 1, t.m as u8, t.m as u8 + 1] {
-        row_score(t, t.row(t.n - 1), site);
+        row_score(t, t.weights[t.n - 1], t.row(t.n - 1), site);
     }
     list_total(t, sites);
     free_division(t, sites, t.n);
@@ -191,7 +191,7 @@ pub fn everything(t: &Town, sites: &[u8], kind: usize) {
     plan(t, BALANCED, exact);
     floor(t);
     let file = file::write(t, kind);
-    assert_eq!(file::read(&file), Ok((t.clone(), kind)));
+    assert_eq!(file::read(&file), Ok((t.unweighted(), kind)));
     write_file(t, kind, file.len());
     write_file(t, kind, file.len() - 1);
     write_file(t, kind, 27_739);

@@ -18,8 +18,8 @@ pub fn wrong_kind(random: &mut Random) -> usize {
 
 /// Makes a survey wrong in one way; seldom it stays right.
 fn damage(random: &mut Random, town: &mut Town) {
-    let (place, byte) = (random.below(town.scores.len()), random.below(town.rows.len()));
-    match random.below(12) {
+    let (place, byte, street) = (random.below(town.scores.len()), random.below(town.rows.len()), random.below(town.weights.len()));
+    match random.below(15) {
         0 => town.n = wrong_size(random, town.n, 400),
         1 => town.m = wrong_size(random, town.m, 64),
         2 => town.k = wrong_size(random, town.k, town.m),
@@ -29,6 +29,9 @@ fn damage(random: &mut Random, town: &mut Town) {
         6 => town.rows.truncate(byte),
         7 => town.scores[place] = [1_001, u16::MAX][random.below(2)],
         8 => town.scores[place] = town.scores[0].wrapping_add(1),
+        9 => town.weights.push(1),
+        10 => town.weights.truncate(street),
+        11 => town.weights[street] = [0, 100, 255][random.below(3)],
         _ => town.rows[byte] = [0, 1, town.m as u8, 65, random.below(256) as u8][random.below(5)],
     }
 }
@@ -64,6 +67,7 @@ fn length(random: &mut Random, right: usize) -> usize {
 fn call_all(random: &mut Random, town: &Town, seen: &mut [usize; NUMBERS]) {
     let list = any_list(random, town.m);
     let row = &town.rows[..length(random, town.m).min(town.rows.len())];
+    let weight = [1, 2, 99, 0, 100, random.below(256) as u8][random.below(6)];
     let site = [1, town.m as u8, 0, 65, random.below(256) as u8][random.below(5)];
     let lengths = Buffers { division: length(random, town.n), chosen: length(random, town.k) };
     let wrong = wrong_kind(random);
@@ -71,7 +75,7 @@ fn call_all(random: &mut Random, town: &Town, seen: &mut [usize; NUMBERS]) {
     let room = [0, 8, 50, 27_739][random.below(4)];
     let numbers = [
         compare::check_survey(town),
-        compare::row_score(town, row, site),
+        compare::row_score(town, weight, row, site),
         compare::list_total(town, &list),
         compare::free_division(town, &list, lengths.division),
         compare::balanced_division(town, &list, lengths.division),
@@ -93,13 +97,13 @@ fn damaged_surveys() {
     for turn in 0..20_000 {
         let mut town = towns::any_town(&mut random, 9, 5);
         for _ in 0..turn % 3 {
-            if !town.scores.is_empty() && !town.rows.is_empty() {
+            if !town.scores.is_empty() && !town.weights.is_empty() && !town.rows.is_empty() {
                 damage(&mut random, &mut town);
             }
         }
         call_all(&mut random, &town, &mut seen);
     }
-    for number in [0, 1, 2, 3, 4, 5, 6, 7, 8, 9, 10, 11, 17, 20] {
+    for number in [0, 1, 2, 3, 4, 5, 6, 7, 8, 9, 10, 11, 17, 20, 24] {
         assert!(seen[number] > 100, "{number} came {} times", seen[number]);
     }
 }

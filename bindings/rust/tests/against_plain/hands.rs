@@ -82,7 +82,8 @@ fn our_plans_pass() {
         let (mut division, mut chosen) = (vec![0; t.n], vec![0; t.k]);
         let kinds: &[Kind] = if t.k <= t.n { &[Kind::Free, Kind::Balanced] } else { &[Kind::Free] };
         for &kind in kinds {
-            let total = slices::plan(t.n, t.m, t.k, kind, &t.scores, &t.rows, &mut division, &mut chosen).expect("a right survey");
+            let total =
+                slices::plan(t.n, t.m, t.k, kind, &t.scores, &t.weights, &t.rows, &mut division, &mut chosen).expect("a right survey");
             let loads = drawn_loads::fitting(&mut random, &t, &division);
             assert_eq!(compare::hand_plan(&t, kind.into(), &division, total, &loads), 0);
         }
@@ -96,7 +97,7 @@ fn long_hand_plans() {
     for _ in 0..60 {
         let t = towns::any_town(&mut random, 400, 64);
         let (mut division, mut chosen) = (vec![0; t.n], vec![0; t.k]);
-        slices::plan(t.n, t.m, t.k, Kind::Free, &t.scores, &t.rows, &mut division, &mut chosen).expect("a right survey");
+        slices::plan(t.n, t.m, t.k, Kind::Free, &t.scores, &t.weights, &t.rows, &mut division, &mut chosen).expect("a right survey");
         try_plan(&mut random, &t, &division, &mut seen);
     }
     for number in [0, 21, 22, 23] {
@@ -106,7 +107,7 @@ fn long_hand_plans() {
 
 /// Both tests of a plan that gives 400 streets the last of 64 sites, where each brings so many kilograms and litres.
 fn one_site_for_all(kilograms: u32, litres: u32) -> [u8; 2] {
-    let town = Town { n: 400, m: 64, k: 1, scores: vec![0; 64], rows: vec![0; 25_600] };
+    let town = Town { n: 400, m: 64, k: 1, scores: vec![0; 64], weights: vec![1; 400], rows: vec![0; 25_600] };
     let [kilogram_limits, litre_limits] = [(); 2].map(|()| vec![1_000_000; 64]);
     let loads = Loads { kilograms: vec![kilograms; 400], litres: vec![litres; 400], kilogram_limits, litre_limits };
     [FREE, BALANCED].map(|kind| compare::hand_plan(&town, kind, &[64; 400], 0, &loads))

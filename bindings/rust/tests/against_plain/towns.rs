@@ -1,4 +1,4 @@
-//! Towns of many kinds: score tables, lists and sizes.
+//! Towns of many kinds: score tables, weights, lists and sizes.
 use crate::plain::survey::Town;
 use crate::random::Random;
 
@@ -30,6 +30,17 @@ pub fn scores(random: &mut Random, m: usize) -> Vec<u16> {
     };
     scores.sort_by(|a, b| b.cmp(a));
     scores
+}
+
+/// Weights: all 1, all alike, small ones, or any.
+pub fn weights(random: &mut Random, n: usize) -> Vec<u8> {
+    let (least, most) = match random.below(4) {
+        0 => (1, 1),
+        1 => [(2, 2), (99, 99)][random.below(2)],
+        2 => (1, 3),
+        _ => (1, 99),
+    };
+    (0..n).map(|_| random.within(least, most) as u8).collect()
 }
 
 fn order(random: &mut Random, m: usize) -> Vec<u8> {
@@ -69,12 +80,13 @@ fn lists(random: &mut Random, culture: Culture, n: usize, m: usize) -> Vec<Vec<u
 /// A town of given sizes with a right survey.
 pub fn town(random: &mut Random, culture: Culture, n: usize, m: usize, k: usize) -> Town {
     let scores = scores(random, m);
+    let weights = weights(random, n);
     let mut rows = Vec::new();
     for mut row in lists(random, culture, n, m) {
         row.resize(m, 0);
         rows.extend(row);
     }
-    Town { n, m, k, scores, rows }
+    Town { n, m, k, scores, weights, rows }
 }
 
 /// A town of sizes up to the given ones: of four, one has a k that divides n, two have any n of at least k, and one has any n.

@@ -9,7 +9,7 @@ fn town(m: usize, k: usize, scores: &[u16], lists: &[&[u8]]) -> Town {
         rows.extend_from_slice(list);
         rows.resize(rows.len() + m - list.len(), 0);
     }
-    Town { n: lists.len(), m, k, scores: scores.to_vec(), rows }
+    Town { n: lists.len(), m, k, scores: scores.to_vec(), weights: vec![1; lists.len()], rows }
 }
 
 /// Total, sites in order of choice, and the site of each street.
@@ -17,12 +17,12 @@ type Plan = Result<(u32, Vec<u8>, Vec<u8>), Refusal>;
 
 fn plan(kind: Kind, t: &Town) -> Plan {
     let (mut division, mut chosen) = (vec![0; t.n], vec![0; t.k]);
-    let total = slices::plan(t.n, t.m, t.k, kind, &t.scores, &t.rows, &mut division, &mut chosen)?;
+    let total = slices::plan(t.n, t.m, t.k, kind, &t.scores, &t.weights, &t.rows, &mut division, &mut chosen)?;
     Ok((total, chosen, division))
 }
 
 fn floor(t: &Town) -> Result<u32, Refusal> {
-    slices::floor(t.n, t.m, t.k, &t.scores, &t.rows)
+    slices::floor(t.n, t.m, t.k, &t.scores, &t.weights, &t.rows)
 }
 
 fn p1(k: usize) -> Town {
@@ -69,7 +69,7 @@ fn ten_streets(k: usize) -> Town {
 /// Total and site of each street of the best balanced division over a list.
 fn divided(t: &Town, sites: &[u8]) -> Result<(u32, Vec<u8>), Refusal> {
     let mut division = vec![0; t.n];
-    let total = slices::balanced_division(t.n, t.m, &t.scores, &t.rows, sites, &mut division)?;
+    let total = slices::balanced_division(t.n, t.m, &t.scores, &t.weights, &t.rows, sites, &mut division)?;
     Ok((total, division))
 }
 
@@ -94,18 +94,18 @@ fn as_many_sites_as_streets_or_more() {
     assert_eq!(divided(&t, &[3, 2, 1]), Err(Refusal::Share));
     assert_eq!(divided(&t, &[3, 2]), Ok((2, vec![2, 3])));
     let loads = Loads::none(2, 3);
-    assert_eq!(slices::hand_plan(2, 3, 3, Kind::Balanced, &t.scores, &t.rows, &[1, 3], 3, loads), Err(Refusal::Share));
+    assert_eq!(slices::hand_plan(2, 3, 3, Kind::Balanced, &t.scores, &t.weights, &t.rows, &[1, 3], 3, loads), Err(Refusal::Share));
     // no other call has this refusal
     assert_eq!(plan(Kind::Free, &t), Ok((4, vec![1, 2, 3], vec![1, 1])));
-    assert_eq!(slices::hand_plan(2, 3, 3, Kind::Free, &t.scores, &t.rows, &[1, 3], 3, loads), Ok(3));
-    assert_eq!(slices::list_total(2, 3, &t.scores, &t.rows, &[3, 2, 1]), Ok(4));
+    assert_eq!(slices::hand_plan(2, 3, 3, Kind::Free, &t.scores, &t.weights, &t.rows, &[1, 3], 3, loads), Ok(3));
+    assert_eq!(slices::list_total(2, 3, &t.scores, &t.weights, &t.rows, &[3, 2, 1]), Ok(4));
     assert_eq!(slices::write_file(2, 3, 3, Kind::Balanced, &t.scores, &t.rows, &mut [0; 40]), Ok(33));
 }
 
 #[test]
 fn uneven_hand_plans() {
     let test = |t: &Town, division: &[u8], claimed| {
-        slices::hand_plan(t.n, t.m, t.k, Kind::Balanced, &t.scores, &t.rows, division, claimed, Loads::none(t.n, t.m))
+        slices::hand_plan(t.n, t.m, t.k, Kind::Balanced, &t.scores, &t.weights, &t.rows, division, claimed, Loads::none(t.n, t.m))
     };
     // any of the three may have two streets
     assert_eq!(test(&p1(3), &[1, 1, 2, 3], 8), Ok(8));
@@ -120,6 +120,62 @@ fn uneven_hand_plans() {
     assert_eq!(test(&ten_streets(3), &[2, 4, 1, 2, 2, 4, 2, 2, 1, 4], 34), Err(Refusal::SitesUsed));
 }
 
+/// P1 with these weights.
+fn weighted(k: usize, weights: [u8; 4]) -> Town {
+    Town { weights: weights.to_vec(), ..p1(k) }
+}
+
+#[test]
+fn weights_change_sites_and_order() {
+    // street 4 counts for nine: its first site is chosen first
+    assert_eq!(plan(Kind::Free, &weighted(2, [1, 1, 1, 9])), Ok((23, vec![3, 1], vec![1, 1, 1, 3])));
+    assert_eq!(plan(Kind::Balanced, &weighted(2, [1, 1, 1, 9])), Ok((22, vec![3, 1], vec![1, 1, 3, 3])));
+    // all alike, whatever they are: the same plan, and so many times its total and floor
+    for weight in [1, 2, 50, 99] {
+        let t = weighted(2, [weight; 4]);
+        assert_eq!(plan(Kind::Free, &t), Ok((7 * u32::from(weight), vec![1, 2], vec![1, 1, 2, 2])));
+        assert_eq!(plan(Kind::Balanced, &t), Ok((7 * u32::from(weight), vec![1, 2], vec![1, 1, 2, 2])));
+        assert_eq!(floor(&t), Ok(2 * u32::from(weight)));
+    }
+    // the smallest weight counts for the floor
+    assert_eq!(floor(&weighted(2, [99, 3, 2, 99])), Ok(4));
+    // in the rounds the counted score comes before the place: with the place first, sites 1 and 2 would be chosen
+    let t = Town { weights: vec![1, 3, 1, 2], ..town(3, 2, &[2, 1, 0], &[&[3, 2, 1], &[1, 3, 2], &[3, 1, 2], &[2, 1]]) };
+    assert_eq!(plan(Kind::Balanced, &t), Ok((12, vec![1, 3], vec![3, 1, 3, 1])));
+    // and the place before the number: without the place, sites 2 and 3
+    let t = Town { weights: vec![1, 2, 1, 2], ..town(3, 2, &[2, 1, 0], &[&[3, 2, 1], &[1, 2, 3], &[2, 1, 3], &[2, 3]]) };
+    assert_eq!(plan(Kind::Balanced, &t), Ok((10, vec![2, 1], vec![1, 1, 2, 2])));
+}
+
+#[test]
+fn the_greatest_total() {
+    let t = Town { n: 400, m: 64, k: 1, scores: vec![1_000; 64], weights: vec![99; 400], rows: (1..=64).cycle().take(25_600).collect() };
+    for kind in [Kind::Free, Kind::Balanced] {
+        assert_eq!(plan(kind, &t), Ok((39_600_000, vec![1], vec![1; 400])));
+    }
+    assert_eq!(floor(&t), Ok(39_600_000));
+    assert_eq!(slices::list_total(400, 64, &t.scores, &t.weights, &t.rows, &[64]), Ok(39_600_000));
+    assert_eq!(
+        slices::hand_plan(400, 64, 1, Kind::Free, &t.scores, &t.weights, &t.rows, &[9; 400], 39_600_000, Loads::none(400, 64)),
+        Ok(39_600_000)
+    );
+}
+
+#[test]
+fn weights_that_are_refused() {
+    let t = p1(2);
+    let check = |scores: &[u16], weights: &[u8], rows: &[u8]| slices::check_survey(4, 3, 2, scores, weights, rows).unwrap_err();
+    assert_eq!(check(&t.scores, &[1; 3], &t.rows), Refusal::BufferLength);
+    assert_eq!(check(&t.scores, &[1; 5], &t.rows), Refusal::BufferLength);
+    assert_eq!(check(&t.scores, &[1, 1, 1, 0], &t.rows), Refusal::Weight);
+    // after 8 and before the rows
+    assert_eq!(check(&[2, 1, 2], &[1, 1, 1, 0], &t.rows), Refusal::Score);
+    assert_eq!(check(&t.scores, &[1, 1, 1, 0], &[4; 12]), Refusal::Weight);
+    let row = |weight| slices::row_score(3, &t.scores, weight, &[3, 2, 1], 3);
+    assert_eq!([0, 1, 99, 100].map(row), [Err(Refusal::Weight), Ok(2), Ok(198), Err(Refusal::Weight)]);
+    assert_eq!(slices::row_score(3, &t.scores, 0, &[4, 2, 1], 9), Err(Refusal::Weight));
+}
+
 /// The two sums of site 1 are 11 and 5, those of site 2 are 15 and 7, each just its limit.
 const LOADS: Loads = Loads { kilograms: &[5, 6, 7, 8], litres: &[1, 4, 3, 4], kilogram_limits: &[11, 15, 0], litre_limits: &[5, 7, 0] };
 
@@ -127,7 +183,7 @@ const LOADS: Loads = Loads { kilograms: &[5, 6, 7, 8], litres: &[1, 4, 3, 4], ki
 fn loads_of_hand_plans() {
     let t = p1(2);
     let both = |loads| {
-        let test = |kind| slices::hand_plan(4, 3, 2, kind, &t.scores, &t.rows, &[1, 1, 2, 2], 7, loads);
+        let test = |kind| slices::hand_plan(4, 3, 2, kind, &t.scores, &t.weights, &t.rows, &[1, 1, 2, 2], 7, loads);
         assert_eq!(test(Kind::Free), test(Kind::Balanced));
         test(Kind::Free)
     };
@@ -141,7 +197,7 @@ fn loads_of_hand_plans() {
     assert_eq!(both(Loads { litre_limits: &[4, 7, 1_000_001], ..LOADS }), Err(Refusal::Load));
     assert_eq!(both(Loads { litre_limits: &[5, 7, 1_000_000], ..LOADS }), Ok(7));
     // street 4 is unserved: it loads no site, and its numbers are tried all the same
-    let test = |loads| slices::hand_plan(4, 3, 2, Kind::Free, &t.scores, &t.rows, &[1, 1, 2, 0], 6, loads);
+    let test = |loads| slices::hand_plan(4, 3, 2, Kind::Free, &t.scores, &t.weights, &t.rows, &[1, 1, 2, 0], 6, loads);
     assert_eq!(test(Loads { kilograms: &[5, 6, 15, 1_000_000], ..LOADS }), Ok(6));
     assert_eq!(test(Loads { kilograms: &[5, 6, 16, 1_000_000], ..LOADS }), Err(Refusal::Kilograms));
     assert_eq!(test(Loads { kilograms: &[5, 6, 15, 1_000_001], ..LOADS }), Err(Refusal::Load));
@@ -171,15 +227,15 @@ fn changed(index: usize, byte: u8, length: usize) -> Refusal {
 #[test]
 fn each_refusal() {
     let (t, mut bytes) = (p1(2), [0; 40]);
-    let check = |n, m, k, scores: &[u16], rows: &[u8]| slices::check_survey(n, m, k, scores, rows).unwrap_err();
+    let check = |n, m, k, scores: &[u16], rows: &[u8]| slices::check_survey(n, m, k, scores, &t.weights, rows).unwrap_err();
     let with = |index: usize, byte| {
         let mut rows = t.rows.clone();
         rows[index] = byte;
         check(4, 3, 2, &t.scores, &rows)
     };
-    let list = |sites: &[u8]| slices::list_total(4, 3, &t.scores, &t.rows, sites).unwrap_err();
+    let list = |sites: &[u8]| slices::list_total(4, 3, &t.scores, &t.weights, &t.rows, sites).unwrap_err();
     let hand = |division: [u8; 4], claimed, loads| {
-        slices::hand_plan(4, 3, 2, Kind::Free, &t.scores, &t.rows, &division, claimed, loads).unwrap_err()
+        slices::hand_plan(4, 3, 2, Kind::Free, &t.scores, &t.weights, &t.rows, &division, claimed, loads).unwrap_err()
     };
     let given = [
         check(0, 3, 2, &t.scores, &t.rows),
@@ -205,6 +261,7 @@ fn each_refusal() {
         hand([1, 1, 2, 2], 7, Loads { litres: &[1, 4, 3, 1_000_001], ..LOADS }),
         hand([1, 1, 2, 2], 7, Loads { kilograms: &[5, 6, 7, 9], ..LOADS }),
         hand([1, 1, 2, 2], 7, Loads { litres: &[1, 5, 3, 4], ..LOADS }),
+        slices::check_survey(4, 3, 2, &t.scores, &[1, 1, 1, 100], &t.rows).unwrap_err(),
     ];
     assert_eq!(given, Refusal::ALL);
 }

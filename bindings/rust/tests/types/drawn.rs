@@ -12,12 +12,15 @@ fn parts(plan: &Result<Plan, Refusal>) -> Result<Parts, Refusal> {
     plan.clone().map(|plan| (plan.total, plan.sites, plan.division.into_bytes()))
 }
 
-/// A drawn town's survey, which is the same from its rows and from its lists.
+/// A drawn town's survey, which is the same from its rows and from its lists. It has its weights once they are given.
 fn survey_of(t: &Town) -> Survey {
     let lists: Vec<&[u8]> = (0..t.n).map(|street| survey::ranked(t.row(street))).collect();
     let survey = Survey::new(&t.scores, &lists).expect("a right survey");
     assert_eq!(Survey::from_rows(&t.scores, &t.rows).as_ref(), Ok(&survey));
+    assert_eq!(survey.weights(), vec![1; t.n]);
+    let survey = survey.with_weights(&t.weights).expect("right weights");
     assert_eq!((survey.streets(), survey.sites(), survey.scores(), survey.rows()), (t.n, t.m, &t.scores[..], &t.rows[..]));
+    assert_eq!(survey.weights(), t.weights);
     survey
 }
 
@@ -25,7 +28,8 @@ fn rows(t: &Town, survey: &Survey) {
     for (index, row) in t.rows.chunks(t.m).enumerate() {
         assert_eq!(survey.list(index + 1), Some(survey::ranked(row)));
         for site in 1..=t.m as u8 {
-            assert_eq!(survey.score(index + 1, site), Some(survey::score(&t.scores, row, site)));
+            let counted = u32::from(t.weights[index]) * survey::score(&t.scores, row, site);
+            assert_eq!(survey.score(index + 1, site), Some(counted));
         }
         assert_eq!([0, t.m as u8 + 1, 255].map(|site| survey.score(index + 1, site)), [None; 3]);
     }
@@ -37,12 +41,12 @@ fn rows(t: &Town, survey: &Survey) {
 fn plans(random: &mut Random, t: &Town, survey: &Survey, k: usize) {
     for kind in [Kind::Free, Kind::Balanced] {
         let (mut division, mut chosen) = (vec![0; t.n], vec![0; k.min(t.m)]);
-        let lent = slices::plan(t.n, t.m, k, kind, &t.scores, &t.rows, &mut division, &mut chosen);
+        let lent = slices::plan(t.n, t.m, k, kind, &t.scores, &t.weights, &t.rows, &mut division, &mut chosen);
         let plan = survey.plan(kind, k);
         assert_eq!(parts(&plan), lent.map(|total| (total, chosen, division)), "{kind:?}, K {k} of {t:?}");
         hand_plans(random, t, survey, kind, plan);
     }
-    assert_eq!(survey.floor(k), slices::floor(t.n, t.m, k, &t.scores, &t.rows));
+    assert_eq!(survey.floor(k), slices::floor(t.n, t.m, k, &t.scores, &t.weights, &t.rows));
 }
 
 /// One of our plans passes as a hand-made one without loads and where its loads fit, and is tested as the functions test it for another kind, K, total and
@@ -66,7 +70,7 @@ fn hand_plans(random: &mut Random, t: &Town, survey: &Survey, kind: Kind, plan: 
         (k, &longer, plan.total, &fitting),
     ] {
         for kind in [Kind::Free, Kind::Balanced] {
-            let tested = slices::hand_plan(t.n, t.m, k, kind, &t.scores, &t.rows, division, claimed, lent(loads));
+            let tested = slices::hand_plan(t.n, t.m, k, kind, &t.scores, &t.weights, &t.rows, division, claimed, lent(loads));
             assert_eq!(survey.test_with_loads(&HandPlan::new(kind, k, division.clone(), claimed), lent(loads)), tested);
         }
     }
@@ -74,12 +78,12 @@ fn hand_plans(random: &mut Random, t: &Town, survey: &Survey, kind: Kind, plan: 
 
 fn lists(random: &mut Random, t: &Town, survey: &Survey, sites: &[u8]) {
     let mut division = vec![0; t.n];
-    assert_eq!(survey.list_total(sites), slices::list_total(t.n, t.m, &t.scores, &t.rows, sites));
-    let free = slices::free_division(t.n, t.m, &t.scores, &t.rows, sites, &mut division);
+    assert_eq!(survey.list_total(sites), slices::list_total(t.n, t.m, &t.scores, &t.weights, &t.rows, sites));
+    let free = slices::free_division(t.n, t.m, &t.scores, &t.weights, &t.rows, sites, &mut division);
     let plan = survey.divide(Kind::Free, sites);
     assert_eq!(parts(&plan), free.map(|total| (total, sites.to_vec(), division.clone())), "{sites:?} of {t:?}");
     hand_plans(random, t, survey, Kind::Free, plan);
-    let balanced = slices::balanced_division(t.n, t.m, &t.scores, &t.rows, sites, &mut division);
+    let balanced = slices::balanced_division(t.n, t.m, &t.scores, &t.weights, &t.rows, sites, &mut division);
     let plan = survey.divide(Kind::Balanced, sites);
     assert_eq!(parts(&plan), balanced.map(|total| (total, sites.to_vec(), division)), "{sites:?} of {t:?}");
     hand_plans(random, t, survey, Kind::Balanced, plan);

@@ -7,6 +7,7 @@ use planner::{slices, Kind, Refusal, Survey, SurveyFile, FILE_LENGTH, ROWS_LENGT
 /// A drawn town's survey with a kind and a K.
 fn drawn_file(random: &mut Random, most_streets: usize, most_sites: usize) -> SurveyFile {
     let town = towns::any_town(random, most_streets, most_sites);
+    // without the town's weights, which a file does not have
     let survey = Survey::from_rows(&town.scores, &town.rows).expect("a right survey");
     SurveyFile::new(survey, [Kind::Free, Kind::Balanced][random.below(2)], town.k)
 }
@@ -52,6 +53,15 @@ fn damaged_files() {
     for number in [0, 1, 2, 3, 4, 8, 10, 11, 12, 13, 14, 15, 16] {
         assert!(seen[number] > 5, "{number} came {} times", seen[number]);
     }
+}
+
+#[test]
+fn weights_are_left_out() {
+    let file = SurveyFile::new(worked::p1().with_weights(&[1, 1, 1, 9]).expect("right weights"), Kind::Free, 1);
+    assert_eq!(file.plan().map(|plan| plan.sites), Ok(vec![3]));
+    let read = SurveyFile::read(&file.write().expect("a right file")).expect("a right file");
+    assert_eq!(read.plan().map(|plan| plan.sites), Ok(vec![1]));
+    assert_eq!(read.into_survey(), worked::p1());
 }
 
 #[test]

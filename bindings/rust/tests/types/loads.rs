@@ -12,8 +12,8 @@ fn none() {
     // larger towns are refused for their sizes
     assert_eq!(Loads::none(MAX_STREETS + 1, usize::MAX), Loads::none(MAX_STREETS, MAX_SITES));
     let rows = [0; 401];
-    assert_eq!(slices::hand_plan(401, 1, 1, Kind::Free, &[0], &rows, &rows, 0, Loads::none(401, 1)), Err(Refusal::Streets));
-    assert_eq!(slices::hand_plan(1, 65, 1, Kind::Free, &[0; 65], &rows[..65], &[0], 0, Loads::none(1, 65)), Err(Refusal::Sites));
+    assert_eq!(slices::hand_plan(401, 1, 1, Kind::Free, &[0], &[1], &rows, &rows, 0, Loads::none(401, 1)), Err(Refusal::Streets));
+    assert_eq!(slices::hand_plan(1, 65, 1, Kind::Free, &[0; 65], &[1], &rows[..65], &[0], 0, Loads::none(1, 65)), Err(Refusal::Sites));
 }
 
 /// The test of P1's plan, whose streets 1 and 2 go to site 1 and the others to site 2.

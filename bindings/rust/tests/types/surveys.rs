@@ -27,7 +27,7 @@ fn damaged_rows() {
         seen[made.as_ref().err().map_or(0, |refusal| refusal.number() as usize)] += 1;
         // where the last row is not whole, it is counted or not: its length is refused
         let n = town.rows.len().div_ceil(town.m);
-        let checked = slices::check_survey(n, town.m, 1, &town.scores, &town.rows);
+        let checked = slices::check_survey(n, town.m, 1, &town.scores, &vec![1; n], &town.rows);
         assert_eq!(made.map(|survey| (survey.scores().to_vec(), survey.rows().to_vec())), checked.map(|()| (town.scores, town.rows)));
     }
     for number in [0, 1, 6, 8, 9, 10, 11] {
@@ -51,10 +51,35 @@ fn damaged_lists() {
         }
         let made = Survey::new(&town.scores, &lists);
         seen[made.as_ref().err().map_or(0, |refusal| refusal.number() as usize)] += 1;
-        let checked = slices::check_survey(town.n, town.m, 1, &town.scores, &town.rows);
+        let checked = slices::check_survey(town.n, town.m, 1, &town.scores, &town.weights, &town.rows);
         assert_eq!(made.map(|survey| survey.rows().to_vec()), checked.map(|()| town.rows));
     }
     for number in [0, 8, 9, 10, 11] {
+        assert!(seen[number] > 50, "{number} came {} times", seen[number]);
+    }
+}
+
+#[test]
+fn damaged_weights() {
+    let mut random = Random::new(27);
+    let mut seen = [0; NUMBERS];
+    for _ in 0..4_000 {
+        let mut town = towns::any_town(&mut random, 9, 5);
+        let street = random.below(town.n);
+        match random.below(5) {
+            0 => town.weights.truncate(street),
+            1 => town.weights.push(1),
+            2 => town.weights[street] = [0, 100, 255][random.below(3)],
+            3 => town.weights[street] = random.below(256) as u8,
+            _ => {}
+        }
+        let plain = Survey::from_rows(&town.scores, &town.rows).expect("a right survey");
+        let made = plain.with_weights(&town.weights);
+        seen[made.as_ref().err().map_or(0, |refusal| refusal.number() as usize)] += 1;
+        let checked = slices::check_survey(town.n, town.m, 1, &town.scores, &town.weights, &town.rows);
+        assert_eq!(made.map(|survey| survey.weights().to_vec()), checked.map(|()| town.weights));
+    }
+    for number in [0, 6, 24] {
         assert!(seen[number] > 50, "{number} came {} times", seen[number]);
     }
 }

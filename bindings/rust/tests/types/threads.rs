@@ -6,7 +6,8 @@ use std::thread;
 
 fn longest_survey() -> Survey {
     let town = towns::town(&mut Random::new(20), Culture::Impartial, MAX_STREETS, MAX_SITES, 8);
-    Survey::from_rows(&town.scores, &town.rows).expect("a right survey")
+    let survey = Survey::from_rows(&town.scores, &town.rows).expect("a right survey");
+    survey.with_weights(&town.weights).expect("right weights")
 }
 
 #[test]

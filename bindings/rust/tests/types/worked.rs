@@ -30,6 +30,20 @@ fn plans() {
 }
 
 #[test]
+fn plans_with_weights() {
+    let survey = p1().with_weights(&[1, 1, 1, 9]).expect("right weights");
+    assert_eq!(parts(survey.plan(Kind::Free, 2)), Ok((23, vec![3, 1], vec![1, 1, 1, 3])));
+    assert_eq!(parts(survey.plan(Kind::Balanced, 2)), Ok((22, vec![3, 1], vec![1, 1, 3, 3])));
+    assert_eq!(parts(survey.divide(Kind::Free, &[1, 2])), Ok((15, vec![1, 2], vec![1, 1, 2, 2])));
+    assert_eq!((survey.score(4, 3), survey.score(4, 2), survey.score(3, 3)), (Some(18), Some(9), Some(0)));
+    assert_eq!(survey.test(&HandPlan::new(Kind::Balanced, 2, [1, 1, 3, 3], 22)), Ok(22));
+    assert_eq!(survey.test(&HandPlan::new(Kind::Balanced, 2, [1, 1, 3, 3], 6)), Err(Refusal::ClaimedTotal));
+    // weights that are given again stand in place of those before
+    assert_eq!(survey.with_weights(&[1; 4]), Ok(p1()));
+    assert_eq!(p1().with_weights(&[2, 3, 2, 99]).and_then(|survey| survey.floor(2)), Ok(4));
+}
+
+#[test]
 fn plans_over_given_sites() {
     assert_eq!(parts(p3().divide(Kind::Free, &[2, 1])), Ok((6, vec![2, 1], vec![1, 1, 1, 2, 2, 2])));
     assert_eq!(parts(p3().divide(Kind::Balanced, &[3, 1])), Ok((5, vec![3, 1], vec![1, 1, 1, 3, 3, 3])));

@@ -16,17 +16,17 @@ pub struct Call {
     pub run: fn(&mut Given) -> u64,
 }
 
-/// Calls a function of the archive: numbers go as they are, a buffer as where it starts and its length, and more numbers and then more
-/// buffers may follow.
+/// Calls a function of the archive: numbers go as they are, a buffer as where it starts and its length, and more numbers, then more
+/// buffers, then a number may follow.
 macro_rules! pass {
-    ($given:ident, $function:ident, $($number:ident)*; $($buffer:ident)*; $($last:ident)* $(; $($behind:ident)*)?) => {
+    ($given:ident, $function:ident, $($number:ident)*; $($buffer:ident)*; $($last:ident)* $(; $($behind:ident)* $(; $end:ident)?)?) => {
         // SAFETY: each pointer stands beside the length of the memory that it starts, which is this buffer's alone.
         unsafe {
             $function(
                 $($given.number(stringify!($number)),)*
                 $($given.start(stringify!($buffer)), $given.length(stringify!($buffer)),)*
                 $($given.number(stringify!($last)),)*
-                $($($given.start(stringify!($behind)), $given.length(stringify!($behind)),)*)?
+                $($($given.start(stringify!($behind)), $given.length(stringify!($behind)),)* $($given.number(stringify!($end)),)?)?
             )
         }
     };
@@ -34,24 +34,24 @@ macro_rules! pass {
 
 #[rustfmt::skip]
 pub const CALLS: [Call; 11] = [
-    Call { name: "check_survey", inputs: "n m k scores rows", outputs: "",
-           run: |given| pass!(given, planner_check_survey, n m k; scores rows;) },
+    Call { name: "check_survey", inputs: "n m k scores weights rows", outputs: "",
+           run: |given| pass!(given, planner_check_survey, n m k; scores weights rows;) },
     Call { name: "ranked_part", inputs: "row", outputs: "length",
            run: |given| pass!(given, planner_ranked_part, ; row;) as u64 },
-    Call { name: "row_score", inputs: "m scores row site", outputs: "total",
-           run: |given| pass!(given, planner_row_score, m; scores row; site) },
-    Call { name: "list_total", inputs: "n m scores rows sites", outputs: "total",
-           run: |given| pass!(given, planner_list_total, n m; scores rows sites;) },
-    Call { name: "free_division", inputs: "n m scores rows sites division-length", outputs: "total division",
-           run: |given| pass!(given, planner_free_division, n m; scores rows sites division;) },
-    Call { name: "balanced_division", inputs: "n m scores rows sites division-length", outputs: "total division",
-           run: |given| pass!(given, planner_balanced_division, n m; scores rows sites division;) },
-    Call { name: "plan", inputs: "n m k kind scores rows division-length chosen-length", outputs: "total chosen division",
-           run: |given| pass!(given, planner_plan, n m k kind; scores rows division chosen;) },
-    Call { name: "floor", inputs: "n m k scores rows", outputs: "total",
-           run: |given| pass!(given, planner_floor, n m k; scores rows;) },
-    Call { name: "hand_plan", inputs: "n m k kind scores rows division claimed kilograms litres kilogram-limits litre-limits", outputs: "total",
-           run: |given| pass!(given, planner_hand_plan, n m k kind; scores rows division; claimed;
+    Call { name: "row_score", inputs: "m scores weight row site", outputs: "total",
+           run: |given| pass!(given, planner_row_score, m; scores; weight; row; site) },
+    Call { name: "list_total", inputs: "n m scores weights rows sites", outputs: "total",
+           run: |given| pass!(given, planner_list_total, n m; scores weights rows sites;) },
+    Call { name: "free_division", inputs: "n m scores weights rows sites division-length", outputs: "total division",
+           run: |given| pass!(given, planner_free_division, n m; scores weights rows sites division;) },
+    Call { name: "balanced_division", inputs: "n m scores weights rows sites division-length", outputs: "total division",
+           run: |given| pass!(given, planner_balanced_division, n m; scores weights rows sites division;) },
+    Call { name: "plan", inputs: "n m k kind scores weights rows division-length chosen-length", outputs: "total chosen division",
+           run: |given| pass!(given, planner_plan, n m k kind; scores weights rows division chosen;) },
+    Call { name: "floor", inputs: "n m k scores weights rows", outputs: "total",
+           run: |given| pass!(given, planner_floor, n m k; scores weights rows;) },
+    Call { name: "hand_plan", inputs: "n m k kind scores weights rows division claimed kilograms litres kilogram-limits litre-limits", outputs: "total",
+           run: |given| pass!(given, planner_hand_plan, n m k kind; scores weights rows division; claimed;
                               kilograms litres kilogram_limits litre_limits) },
     Call { name: "read_file", inputs: "file rows-length scores-length", outputs: "n m k kind rows.. scores..",
            run: read_file },
@@ -80,7 +80,7 @@ fn read_file(given: &mut Given) -> u64 {
 }
 
 /// The keys that stand for one number; every other key stands for a buffer.
-pub const NUMBERS: [&str; 6] = ["n", "m", "k", "kind", "site", "claimed"];
+pub const NUMBERS: [&str; 7] = ["n", "m", "k", "kind", "weight", "site", "claimed"];
 
 /// The bytes of a number, or of an entry of a buffer.
 pub fn width(key: &str) -> usize {

@@ -32,26 +32,38 @@ fn wrong_blocks() {
 fn wrong_outcomes() {
     assert_eq!(changed("length 2", "length 3"), ["here:3: ranked_part answers 0 with 2, and 0 with 3 is due"]);
     assert_eq!(changed("=> 0\nlength 2", "=> 6"), ["here:3: ranked_part answers 0 with 2, and 6 with 0 is due"]);
-    let division = "call free_division\nn 1\nm 1\nscores 7\nrows 1\nsites 1\ndivision-length 1\n=> 0\ntotal 7\ndivision ";
+    let division = "call free_division\nn 1\nm 1\nscores 7\nweights 1\nrows 1\nsites 1\ndivision-length 1\n=> 0\ntotal 7\ndivision ";
     assert_eq!(run::every_block("here", &format!("{division}1\n")), (1, Vec::new()));
     let wrong = ["here:1: `division` after free_division: its entry 1 is 1 and should be 0"];
     assert_eq!(run::every_block("here", &format!("{division}0\n")).1, wrong);
-    assert_eq!(run::every_block("here", &format!("{division}1 1\n")).1, ["here:10: 2 values for the 1 entries of `division`"]);
+    assert_eq!(run::every_block("here", &format!("{division}1 1\n")).1, ["here:11: 2 values for the 1 entries of `division`"]);
 }
 
 #[test]
 fn inputs_left_out() {
     let without = "call hand_plan\nn 1\nm 1\nk 1\nkind 1\nscores 7\nrows 1\ndivision 1\nclaimed 7\n=> 0\ntotal 7\n";
-    let with = without.replace("=> 0", "kilograms 5\nlitres 6\nkilogram-limits 5\nlitre-limits 6\n=> 0");
+    let loaded = without.replace("=> 0", "kilograms 5\nlitres 6\nkilogram-limits 5\nlitre-limits 6\n=> 0");
+    let with = loaded.replace("rows", "weights 1\nrows");
     for file in ["base.txt", "2026-01.txt"] {
         assert_eq!(run::every_block(file, without), (1, Vec::new()));
         let twice = format!("{file}:1: `hand_plan` has no line `kilograms`, or has it twice");
+        assert_eq!(run::every_block(file, &loaded).1, [twice]);
+    }
+    for file in ["2026-02.txt", "2026-04-full.txt"] {
+        assert_eq!(run::every_block(file, &loaded), (1, Vec::new()));
+        assert_eq!(run::every_block(file, without).1, [format!("{file}:1: `hand_plan` lacks its line `kilograms`")]);
+        let twice = format!("{file}:1: `hand_plan` has no line `weights`, or has it twice");
         assert_eq!(run::every_block(file, &with).1, [twice]);
     }
-    for file in ["2026-02.txt", "2026-10.txt"] {
+    for file in ["2026-05.txt", "2026-10.txt"] {
         assert_eq!(run::every_block(file, &with), (1, Vec::new()));
-        assert_eq!(run::every_block(file, without).1, [format!("{file}:1: `hand_plan` lacks its line `kilograms`")]);
+        assert_eq!(run::every_block(file, &loaded).1, [format!("{file}:1: `hand_plan` lacks its line `weights`")]);
     }
+    let row = "call row_score\nm 1\nscores 7\nrow 1\nsite 1\n=> 0\ntotal 7\n";
+    assert_eq!(run::every_block("2026-04.txt", row), (1, Vec::new()));
+    assert_eq!(run::every_block("2026-05.txt", row).1, ["2026-05.txt:1: `row_score` lacks its line `weight`"]);
+    let nine = row.replace("row 1", "row 1\nweight 9");
+    assert_eq!(run::every_block("2026-05.txt", &nine).1, ["2026-05.txt:1: row_score answers 0 with 63, and 0 with 7 is due"]);
     // each of the four goes to the function as the buffer of its own name
     for (least, number) in [("kilogram-limits 5", 22), ("litre-limits 6", 23)] {
         let over = with.replace(least, &least.replace(['5', '6'], "4"));

@@ -12,6 +12,8 @@ pub fn lines<'a>(file: &str, call: &Call, block: &Block<'a>) -> Vec<Line<'a>> {
         given.map_or(0, |&size| size.min(most as u64) as usize)
     };
     let values = |key: &str| match key {
+        "weights" if before("2026-05") => Some(vec![1; size("n", MAX_STREETS)]),
+        "weight" if before("2026-05") => Some(vec![1]),
         "kilograms" | "litres" if before("2026-02") => Some(vec![0; size("n", MAX_STREETS)]),
         "kilogram-limits" | "litre-limits" if before("2026-02") => Some(vec![Loads::MOST.into(); size("m", MAX_SITES)]),
         _ => None,

@@ -73,7 +73,7 @@ pub fn read(file: &[u8]) -> Result<Filed, u8> {
     if !rest.0.is_empty() {
         return Err(16);
     }
-    Ok((Town { n, m, k, scores, rows }, kind))
+    Ok((Town { n, m, k, scores, weights: vec![1; n], rows }, kind))
 }
 
 /// One street's record.

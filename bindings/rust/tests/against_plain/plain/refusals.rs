@@ -53,6 +53,10 @@ pub fn scores(scores: &[u16]) -> Tried {
     Ok(())
 }
 
+pub fn weights(weights: &[u8]) -> Tried {
+    refuse(24, weights.iter().any(|weight| !(1..=99).contains(weight)))
+}
+
 pub fn row(m: usize, row: &[u8]) -> Tried {
     for (i, &site) in row.iter().enumerate().filter(|(_, &site)| site != 0) {
         refuse(9, row[..i].contains(&0))?;
@@ -85,8 +89,10 @@ pub fn survey(town: &Town, k: usize, between: impl Fn() -> Tried) -> Tried {
     chosen(k, town.m)?;
     between()?;
     length(town.scores.len(), town.m)?;
+    length(town.weights.len(), town.n)?;
     length(town.rows.len(), town.n * town.m)?;
     scores(&town.scores)?;
+    weights(&town.weights)?;
     town.rows.chunks(town.m).try_for_each(|bytes| row(town.m, bytes))
 }
 
@@ -94,12 +100,13 @@ pub fn check(town: &Town) -> Tried {
     survey(town, town.k, || Ok(()))
 }
 
-/// One row of m bytes and one site.
-pub fn row_score(town: &Town, bytes: &[u8], site: u8) -> Tried {
+/// One row of m bytes with one weight, and one site.
+pub fn row_score(town: &Town, weight: u8, bytes: &[u8], site: u8) -> Tried {
     sites(town.m)?;
     length(town.scores.len(), town.m)?;
     length(bytes.len(), town.m)?;
     scores(&town.scores)?;
+    weights(&[weight])?;
     row(town.m, bytes)?;
     outside(1, town.m, &[site])
 }
@@ -131,6 +138,7 @@ pub fn floor(town: &Town) -> Tried {
     survey(town, town.k, || share(town.n, town.k))
 }
 
+/// The writer is given no weights.
 pub fn write(town: &Town, sort: usize) -> Tried {
-    survey(town, town.k, || kind(sort))
+    survey(&town.unweighted(), town.k, || kind(sort))
 }

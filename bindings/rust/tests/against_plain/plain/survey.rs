@@ -1,4 +1,4 @@
-//! The survey: scores, rows, places.
+//! The survey: scores, weights, rows, places.
 
 /// A survey as a caller hands it over: nothing of it need be right.
 #[derive(Clone, Debug, PartialEq, Eq)]
@@ -7,6 +7,7 @@ pub struct Town {
     pub m: usize,
     pub k: usize,
     pub scores: Vec<u16>,
+    pub weights: Vec<u8>,
     pub rows: Vec<u8>,
 }
 
@@ -33,19 +34,24 @@ impl Town {
         &self.rows[street * self.m..(street + 1) * self.m]
     }
 
+    /// The town as a survey file has it: every street counts once. A number of streets that is too large is refused for itself.
+    pub fn unweighted(&self) -> Town {
+        Town { weights: vec![1; self.n.min(400)], ..self.clone() }
+    }
+
     /// The numbers of all sites.
     pub fn sites(&self) -> impl Iterator<Item = u8> {
         1..=self.m as u8
     }
 
-    /// The score that each street gives each site, with 0 for site 0.
+    /// The score that each street gives each site, times its weight, with 0 for site 0.
     pub fn values(&self) -> Vec<Vec<u32>> {
-        let of = |street| (0..=self.m as u8).map(|site| score(&self.scores, self.row(street), site)).collect();
-        (0..self.n).map(of).collect()
+        let value = |street, site| u32::from(self.weights[street]) * score(&self.scores, self.row(street), site);
+        (0..self.n).map(|street| (0..=self.m as u8).map(|site| value(street, site)).collect()).collect()
     }
 }
 
-/// The total of a division: the sum over streets of the score each gives its site.
+/// The total of a division: the sum over streets of the value of its site for each.
 pub fn division_total(values: &[Vec<u32>], division: &[u8]) -> u32 {
     values.iter().zip(division).map(|(value, &site)| value[site as usize]).sum()
 }
