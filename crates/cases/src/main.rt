@@ -10,7 +10,7 @@ mod plans;
 mod say;
 
 // the last command, what a command with weights has more, and the most cases
-const LAST: usize = 17;
+const LAST: usize = 18;
 
 const WEIGHED: usize = 20;
 
@@ -83,14 +83,15 @@ fn answered(command: usize, weighed: bool) {
         7 => plans::division_case(true, weighed),
         8 => plans::plan_case(1, weighed),
         9 => plans::floor_case(weighed),
-        10 => files::write_case(),
-        11 => files::read_case(),
+        10 => files::write_case(weighed),
+        11 => files::read_case(weighed),
         12 => hands::hand_case(0, false, weighed),
         13 => hands::hand_case(1, false, weighed),
         14 => hands::hand_case(0, true, weighed),
         15 => hands::hand_case(1, true, weighed),
         16 => plans::plan_case(input::number(), weighed),
-        _ => hands::hand_case(input::number(), true, weighed),
+        17 => hands::hand_case(input::number(), true, weighed),
+        _ => files::convert_case(),
     }
 }
 

@@ -5,6 +5,7 @@ ghost use lib.ListN.{length};
 ghost use Rattle.drawn_towns.specs.Small.{Small};
 
 pub mod asked;
+pub mod changes;
 pub mod loads;
 pub mod weights;
 

@@ -1,20 +1,20 @@
 -- Laws of the reader's answer: what is told of it where the call is refused and where it is not, what it tells, and that it is fixed by that.
 -- Assumes nothing.
 use mathlib.Core.Path.{_≡_, refl, sym, ap, _∙_}
-use mathlib.Core.Bool.{Bool, true, false, false≢true}
+use mathlib.Core.Bool.{Bool, true, false, _&&_, false≢true}
 use mathlib.Core.List.{List}
 use Prim.Native.Nat.{ℕ}
 use lib.Dec.{eqb}
 use borrow.Author.Tests.{eq-eqb, ne-eqb, eqb-true}
 use Rattle.counting.specs.Words.{_when_}
-use Rattle.counting.proofs.Refusals.{when-yes, when-none}
-use Rattle.survey_file.specs.Decode.{streetsIn, sitesIn, chosenIn, kindIn}
+use Rattle.counting.proofs.Refusals.{when-yes, when-none, and-not-left}
+use Rattle.survey_file.specs.Decode.{formIn, streetsIn, sitesIn, chosenIn, kindIn}
 use Rattle.refusals.specs.Inputs.{ReadInput}
 use Rattle.refusals.specs.Refusals.{Tried, readRefusal}
 use Rattle.file_refusals.proofs.SizesGiven.{GivenSizes}
 use Rattle.file_calls.specs.declared.Read.{Read}
 use Rattle.file_calls.specs.declared.Read.the-variants as read
-use Rattle.file_calls.specs.Answers.{readNumber, readAccepts, readStreets, readSites, readChosen, readKind, ReadTold}
+use Rattle.file_calls.specs.Answers.{readNumber, readAccepts, readStreets, readSites, readChosen, readKind, readForm, ReadTold}
 use Rattle.file_calls.specs.Calls.{FileRead}
 
 -- ---- what is told of an answer
@@ -30,10 +30,12 @@ told-refusal {i} {x} tried h =
       right-sites = nothing (sitesIn (i .file));
       right-chosen = nothing (chosenIn (i .file));
       right-kind = nothing (kindIn (i .file));
+      right-form = sym (and-not-left (eqb (readRefusal i) 0) (formIn (i .file)) none);
     }
 
 -- a survey: each size is the file's
-pub told-survey : {i : ReadInput} {n m k kind : ℕ} → GivenSizes i n m k kind → ReadTold (read.Survey n m k kind) (readRefusal i) (i .file)
+pub told-survey : {i : ReadInput} {n m k kind : ℕ} {newForm : Bool} → GivenSizes readRefusal i (i .file) n m k kind newForm
+    → ReadTold (read.Survey n m k kind newForm) (readRefusal i) (i .file)
 told-survey {i} given =
     let yes : eqb (readRefusal i) 0 ≡ true = eq-eqb (readRefusal i) 0 (given .quiet) in
     let due : (x y : ℕ) → x ≡ y → x ≡ y when eqb (readRefusal i) 0 = λ x y e. e ∙ when-yes y (eqb (readRefusal i) 0) yes in
@@ -44,6 +46,7 @@ told-survey {i} given =
       right-sites = due _ (sitesIn (i .file)) (given .sites);
       right-chosen = due _ (chosenIn (i .file)) (given .chosen);
       right-kind = due _ (kindIn (i .file)) (given .of-kind);
+      right-form = given .form ∙ sym (ap (λ (t : Bool). t && formIn (i .file)) yes);
     }
 
 -- ---- what an answer tells
@@ -51,9 +54,9 @@ told-survey {i} given =
 told-yes : (x y : ℕ) (t : Bool) → t ≡ true → x ≡ y when t → x ≡ y
 told-yes x y t h e = e ∙ sym (when-yes y t h)
 
-module _ {i : ReadInput} {scores rows : List ℕ} {r : Read} (call : FileRead i scores rows r) where
-  -- a survey: nothing is refused, and the sizes and the kind are the file's
-  pub survey-tells : {n m k kind : ℕ} → r ≡ read.Survey n m k kind → GivenSizes i n m k kind
+module _ {i : ReadInput} {scores weights rows : List ℕ} {r : Read} (call : FileRead i scores weights rows r) where
+  -- a survey: nothing is refused, and the sizes, the kind and the form are the file's
+  pub survey-tells : {n m k kind : ℕ} {newForm : Bool} → r ≡ read.Survey n m k kind newForm → GivenSizes readRefusal i (i .file) n m k kind newForm
   survey-tells e =
       let yes : eqb (readRefusal i) 0 ≡ true = sym (call .answer .right-case) ∙ ap readAccepts e in
       record {
@@ -62,6 +65,7 @@ module _ {i : ReadInput} {scores rows : List ℕ} {r : Read} (call : FileRead i 
         sites = told-yes _ (sitesIn (i .file)) _ yes (sym (ap readSites e) ∙ call .answer .right-sites);
         chosen = told-yes _ (chosenIn (i .file)) _ yes (sym (ap readChosen e) ∙ call .answer .right-chosen);
         of-kind = told-yes _ (kindIn (i .file)) _ yes (sym (ap readKind e) ∙ call .answer .right-kind);
+        form = sym (ap readForm e) ∙ call .answer .right-form ∙ ap (λ (t : Bool). t && formIn (i .file)) yes;
       }
 
   -- a refusal: its number is the first that applies, and not 0
@@ -74,14 +78,15 @@ module _ {i : ReadInput} {scores rows : List ℕ} {r : Read} (call : FileRead i 
 -- ---- two answers of which the same is told are equal
 module _ {x : ℕ} {file : List ℕ} where
   fixed : (r q : Read) → ReadTold r x file → ReadTold q x file → r ≡ q
-  fixed (read.Survey n m k kind) (read.Survey n′ m′ k′ kind′) a b =
+  fixed (read.Survey n m k kind newForm) (read.Survey n′ m′ k′ kind′ newForm′) a b =
       let streets : n ≡ n′ = a .right-streets ∙ sym (b .right-streets) in
       let sites : m ≡ m′ = a .right-sites ∙ sym (b .right-sites) in
       let chosen : k ≡ k′ = a .right-chosen ∙ sym (b .right-chosen) in
       let of-kind : kind ≡ kind′ = a .right-kind ∙ sym (b .right-kind) in
-      rw (streets, sites, chosen, of-kind) refl
-  fixed (read.Survey n m k kind) (read.Refused y) a b = absurd (false≢true (b .right-case ∙ sym (a .right-case)))
-  fixed (read.Refused x) (read.Survey n m k kind) a b = absurd (false≢true (a .right-case ∙ sym (b .right-case)))
+      let form : newForm ≡ newForm′ = a .right-form ∙ sym (b .right-form) in
+      rw (streets, sites, chosen, of-kind, form) refl
+  fixed (read.Survey n m k kind newForm) (read.Refused y) a b = absurd (false≢true (b .right-case ∙ sym (a .right-case)))
+  fixed (read.Refused x) (read.Survey n m k kind newForm) a b = absurd (false≢true (a .right-case ∙ sym (b .right-case)))
   fixed (read.Refused x) (read.Refused y) a b = ap (λ (z : ℕ). read.Refused z) (a .right-number ∙ sym (b .right-number))
 
   pub read-fixed : {r q : Read} → ReadTold r x file → ReadTold q x file → r ≡ q

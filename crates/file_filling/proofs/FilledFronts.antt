@@ -1,12 +1,12 @@
--- Laws of filling the buffers from a file that is not refused: where each street's record begins, what its row is, and that a front that has
--- been filled with a list is the list laid over the buffer.
+-- Laws of filling the buffers from a file that is not refused: where each street's record begins, what its row and its weight are, and that a front
+-- that has been filled with a list is the list laid over the buffer.
 -- Assumes nothing.
 use mathlib.Core.Path.{_≡_, refl, sym, ap, _∙_}
 use mathlib.Core.Logic.{by-cases}
+use mathlib.Core.Bool.{Bool, true, false, cond}
 use mathlib.Core.List.{List, _++_}
 use Prim.Native.Nat.{ℕ, _+_, _-_, _*_, _≤_, _<_}
 use native.Mathlib.Nat.{mul-le-mul, zero-add}
-use native.Mathlib.Numerals.{add-one}
 use native.Mathlib.Decide.{decLt}
 use native.Mathlib.Omega.{arith}
 use lib.ListN.{length, take, drop, replicate, length-take, length-append, length-drop, length-replicate, getD-replicate, List·getD-append}
@@ -20,10 +20,13 @@ use Rattle.counting.proofs.Tables.{row-within}
 use Rattle.counting.proofs.Parts.{put, put-length, put-before, put-in, put-behind}
 use Rattle.survey.specs.Rows.{rowOf}
 use Rattle.survey.specs.Accepted.{Accepted}
-use Rattle.survey_file.specs.Decode.{wordAt, listIn, rowFrom, past, scoresPart, streetsIn, sitesIn, streetsPart, rowsIn, townIn, fileRefusal}
-use Rattle.survey_file.specs.FileBuffers.{rowsRead, scoresRead}
+use Rattle.survey_file.specs.Decode.{wordAt, weightsIn, weightsSize, listIn, rowFrom, past, scoresPart, weightsPart, formIn, streetsIn, sitesIn}
+use Rattle.survey_file.specs.Decode.{streetsPart, rowsIn, townIn, fileRefusal, FileTaken}
+use Rattle.survey_file.specs.FileBuffers.{rowsRead, scoresRead, weightsRead}
 use Rattle.survey_file.proofs.Accepting.{FileSays, file-says}
+use Rattle.survey_file.proofs.Weights.{weights-whole}
 use Rattle.survey_file.proofs.WrittenBack.{row-read, town-accepted}
+use Rattle.file_reader.proofs.Walking.{street-past}
 
 -- a list laid over the front of a buffer
 laid-front : (before list : List ℕ) → laid before 0 list ≡ list ++ drop (length list) before
@@ -61,6 +64,13 @@ mapped-part g before now ys from to order fits size right h =
         let there : from + (i - from) ≡ i = omega arith in
         rw there at (put-in from to now fits ys order size (i - from) (omega arith) ∙ right (i - from) (omega arith))
 
+-- ---- weights
+-- the weight of a street: in a new file a byte behind the mark of HW, which stands at an index
+weight-read : (newForm : Bool) (n : ℕ) (file : List ℕ) (from i : ℕ) → i < n
+    → at (weightsIn newForm n (drop from file)) i ≡ cond newForm (at file (from + (2 + i))) 1
+weight-read false n file from i l = getD-replicate n i 1 0 l
+weight-read true n file from i l = getD-take n (drop 2 (drop from file)) i 0 l ∙ getD-drop 2 (drop from file) i 0 ∙ getD-drop from file (2 + i) 0
+
 -- ---- rows
 -- zeros stand at each index of a list of them
 zeros-at : (k i : ℕ) → at (replicate k 0) i ≡ 0
@@ -94,6 +104,11 @@ module _ (file : List ℕ) (ok : fileRefusal file ≡ 0) where
   pub sizes : (streetsIn file ≤ mostStreets) × (sitesIn file ≤ mostSites) × (9 + 2 * sitesIn file ≤ length file)
   sizes = (held .few-streets, held .few-sites, omega (arith, read .scores .whole, length-drop 7 file, read .town .whole))
 
+  -- and so are its weights, where it gives any
+  weights-there : 9 + 2 * sitesIn file + weightsSize (formIn file) (streetsIn file) ≤ length file
+  weights-there =
+      omega (arith, weights-whole (streetsIn file) (weightsPart file) (formIn file) (read .weights), length-drop (9 + 2 * sitesIn file) file, sizes .2)
+
   -- the scores are the words behind the mark of SC
   scores-right : (i : ℕ) → i < sitesIn file → at (townIn file .scores) i ≡ wordAt file (9 + 2 * i)
   scores-right i l =
@@ -119,11 +134,7 @@ module _ (file : List ℕ) (ok : fileRefusal file ≡ 0) where
 
     -- the next one begins behind it
     record-next : drop (from + 5 + at file (from + 4)) file ≡ past (streetsPart file) (s + 1)
-    unfolding past
-    record-next =
-        let size : at (past (streetsPart file) s) 4 ≡ at file (from + 4) = rw (← there) (getD-drop from file 4 0) in
-        let place : from + (5 + at file (from + 4)) ≡ from + 5 + at file (from + 4) = omega arith in
-        rw add-one (sym (rw (size, ← there) (drop-drop (5 + at file (from + 4)) from file ∙ ap (λ (x : ℕ). drop x file) place)))
+    record-next = street-past file (streetsPart file) (sitesIn file) from s there (at file (from + 4)) (sym (getD-drop from file 4 0))
 
     -- its row stands in the rows
     row-right : (j : ℕ) → j < sitesIn file → at (listIn (drop from file)) j ≡ at (rowsIn file) (s * sitesIn file + j)
@@ -133,32 +144,34 @@ module _ (file : List ℕ) (ok : fileRefusal file ≡ 0) where
         getD-take m (drop (s * m) (rowsIn file)) j 0 k ∙ getD-drop (s * m) (rowsIn file) j 0 in
         rw there (sym (row-at m (past (streetsPart file) s) j) ∙ sym (ap (λ (row : List ℕ). at row j) (row-read file ok s l)) ∙ cell)
 
--- ---- the call: its file is not refused, and holds n streets and m sites
-pub record Known (file : List ℕ) (n m : ℕ) : Type 0 where
-  pub ok : fileRefusal file ≡ 0
-  pub streets : n ≡ streetsIn file
-  pub sites : m ≡ sitesIn file
-
+-- ---- the call
 -- the rows of the first s streets are filled, and the next record begins at an index
 pub record Filling (file before now : List ℕ) (s from : ℕ) : Type 0 where
   pub there : drop from file ≡ past (streetsPart file) s
   pub inside : from ≤ length file
   pub filled : Mapped (λ i x. at (rowsIn file) i) before now (s * sitesIn file)
 
-module _ {file : List ℕ} {n m : ℕ} (known : Known file n m) where
+module _ {file : List ℕ} {n m : ℕ} {newForm : Bool} (known : FileTaken file n m newForm) where
   -- no street's row is filled yet
-  filling-none : (before : List ℕ) → Filling file before before 0 (9 + 2 * sitesIn file)
+  filling-none : (before : List ℕ) → Filling file before before 0 (9 + 2 * sitesIn file + weightsSize (formIn file) (streetsIn file))
   unfolding past
   filling-none before =
       record {
         there = refl;
-        inside = sizes file (known .ok) .2;
+        inside = weights-there file (known .ok);
         filled = mapped-end (λ i x. at (rowsIn file) i) before before 0 (0 * sitesIn file) (omega arith) (omega arith)
             (mapped-none (λ i x. at (rowsIn file) i) before);
       }
 
-  pub filling-begin : (before : List ℕ) → Filling file before before 0 (9 + 2 * m)
-  filling-begin before = rw (known .sites) (filling-none before)
+  pub filling-begin : (before : List ℕ) (size : ℕ) → size ≡ weightsSize newForm n → Filling file before before 0 (9 + 2 * m + size)
+  filling-begin before size e = rw (e, known .sites, known .form, known .streets) (filling-none before)
+
+  -- the weights of a new file stand in it
+  pub weights-room : newForm ≡ true → 11 + 2 * m + n ≤ length file
+  weights-room new =
+      let size : weightsSize newForm n ≡ 2 + n = ap (λ (b : Bool). weightsSize b n) new in
+      let there : 9 + 2 * m + weightsSize newForm n ≤ length file = rw (known .sites, known .form, known .streets) (weights-there file (known .ok)) in
+      omega arith
 
   module _ {before now : List ℕ} {s from : ℕ} (l : s < n) (h : Filling file before now s from) where
     -- a street of the file
@@ -215,6 +228,22 @@ module _ {file : List ℕ} {n m : ℕ} (known : Known file n m) where
       let same : Mapped (λ i x. at list i) before now m =
       record { size = h .size; done = λ i l. h .done i l ∙ sym (scores-right file (known .ok) i (omega (arith, known .sites))); rest = h .rest } in
       mapped-laid list before now m (known .sites ∙ sym long) (omega (arith, sizes file (known .ok) .1)) same
+
+  -- and the weights
+  pub weights-laid : {before now : List ℕ} → length before ≡ mostStreets → Mapped (λ i x. cond newForm (at file (11 + 2 * m + i)) 1) before now n
+      → now ≡ weightsRead file before
+  weights-laid {before} {now} size h =
+      let list : List ℕ = townIn file .weights in
+      let long : length list ≡ streetsIn file = held file (known .ok) .weights-fit in
+      let each : (i : ℕ) → i < n → at list i ≡ cond newForm (at file (11 + 2 * m + i)) 1
+      = λ i l.
+      let place : 9 + 2 * sitesIn file + (2 + i) ≡ 11 + 2 * sitesIn file + i = omega arith in
+      rw (known .form, known .sites)
+      (weight-read (formIn file) (streetsIn file) file (9 + 2 * sitesIn file) i (omega (arith, known .streets))
+      ∙ ap (λ (x : ℕ). cond (formIn file) (at file x) 1) place)
+      in
+      let same : Mapped (λ i x. at list i) before now n = record { size = h .size; done = λ i l. h .done i l ∙ sym (each i l); rest = h .rest } in
+      mapped-laid list before now n (known .streets ∙ sym long) (omega (arith, sizes file (known .ok) .0)) same
 
 -- ---- one row
 -- a byte of a list behind an index, 0 behind the list's end

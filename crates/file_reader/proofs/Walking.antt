@@ -65,11 +65,11 @@ module _ (file streets : List ℕ) (m here i : ℕ) (rest-is : drop here file �
 
   -- an answer that is no street ends the walk
   pub street-stops : (n r : ℕ) (answer : Record) → i < n → firstOf i (streetRecord m streets) ≡ 0
-      → answer ≡ recordOf (due.Street m (i + 1)) (drop here file) → OneOf (0 ∷ 1 ∷ 3 ∷ 4 ∷ []) (tagOf record-type.the-type answer) → r ≡ numberOf answer
+      → answer ≡ recordOf (due.Street m (i + 1)) (drop here file) → OneOf (0 ∷ 1 ∷ 2 ∷ 4 ∷ 5 ∷ []) (tagOf record-type.the-type answer) → r ≡ numberOf answer
       → r ≡ streetsAndEnd n m streets
   street-stops n r answer l quiet is other e =
       let number = number-is (due.Street m (i + 1)) (drop here file) answer is r e in
-      let some : r ≡ 0 → ⊥ = λ z. some-refusal (due.Street m (i + 1)) (drop here file) answer is (0 ∷ 1 ∷ 3 ∷ 4 ∷ []) other tt (sym number ∙ z) in
+      let some : r ≡ 0 → ⊥ = λ z. some-refusal (due.Street m (i + 1)) (drop here file) answer is (0 ∷ 1 ∷ 2 ∷ 4 ∷ 5 ∷ []) other tt (sym number ∙ z) in
       or-stop r (firstOf n (streetRecord m streets)) (markRefusal endMark (past streets n) orElse endFields (past streets n))
       (first-found i n (streetRecord m streets) r l quiet (street-is r number) some) some
 

@@ -1,11 +1,12 @@
 // What is turned down in the fields of a record. Each function is given all bytes from the record's mark on, and gives the number that its
 // definition gives, 0 where there is nothing to refuse.
 use survey::Survey;
+use survey_check::check;
 ghost use mathlib.Core.Path.{_≡_};
 ghost use Prim.Native.Nat.{_+_, _*_, _≤_, _<_};
 ghost use lib.ListN.{length};
 ghost use Rattle.counting.specs.Words.{firstOf};
-ghost use Rattle.survey_file.specs.Decode.{wordAt, townFields, scoresFields, streetFields, endFields};
+ghost use Rattle.survey_file.specs.Decode.{wordAt, townFields, scoresFields, weightsFields, streetFields, endFields};
 ghost use Rattle.file_reader.specs.Fields.{sizesField, scoreField, siteField, listField};
 
 // The 16-bit number at an index, low byte first.
@@ -18,7 +19,7 @@ pub fn word_at(rest: &[u8], i: usize) -> usize
     low + 256 * high
 }
 
-// 1, 2, 3, 4, and 12 before them: the fields of TN.
+// 1, 2, 3, 4, and 12 before them: the fields of TN and of TW.
 pub fn town_refusal(rest: &[u8]) -> u8
     ensures { λ r. ⌜ r ≡ townFields (now (rest .entry)) ⌝ }
 {
@@ -98,6 +99,20 @@ pub fn scores_refusal(rest: &[u8], m: u8) -> u8
         return 12;
     }
     table_refusal(rest, due)
+}
+
+// 12, then 24: the fields of HW.
+pub fn weights_refusal(rest: &[u8], n: usize) -> u8
+    ensures { λ r. ⌜ r ≡ weightsFields n (now (rest .entry)) ⌝ }
+{
+    if rest.len() < 2 {
+        return 12;
+    }
+    if rest.len() - 2 < n {
+        return 12;
+    }
+    let end = 2 + n;
+    check::weights_refusal(&rest[2..end])
 }
 
 // 10, 11: one byte of a list, where the same byte stands before it.

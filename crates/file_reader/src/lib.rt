@@ -6,13 +6,14 @@ pub mod fields;
 pub mod reader;
 pub mod records;
 
-// The answer of a check: the sizes that the town's record gives, or the refusal's number.
+// The answer of a check: what the town's record gives, the file's form among it, or the refusal's number.
 pub enum Checked {
     Sizes {
         n: usize,
         m: usize,
         k: usize,
         kind: usize,
+        new_form: bool,
     },
     Refused(u8),
 }

@@ -9,7 +9,7 @@ ghost use Prim.Native.Nat.{_+_, _≤_};
 ghost use lib.ListN.{length, drop};
 ghost use Rattle.survey_file.specs.Decode.{streetsAndEnd};
 ghost use Rattle.file_reader.specs.Answers.{recordOf};
-ghost use Rattle.file_reader.specs.Checks.{refusedBy, streetsChecked, scoresChecked, checkedFile};
+ghost use Rattle.file_reader.specs.Checks.{refusedBy, streetsChecked, weightsChecked, scoresChecked, checkedFile};
 
 // The lent file, and how many of its bytes are read.
 pub struct Reader<'a> {
@@ -66,10 +66,18 @@ fn streets_refusal(file: &[u8], from: usize, n: usize, m: u8) -> u8
     records::number_of(records::record_at(file, at, Due::End))
 }
 
-// The same with the answer to the whole file, where its town has these sizes and its scores are read.
-fn streets_checked(file: &[u8], from: usize, n: usize, m: u8, k: u8, kind: u8) -> Checked
+// The same with the answer to the whole file, where its town has these sizes and all in front is read.
+fn streets_checked(
+    file: &[u8],
+    from: usize,
+    n: usize,
+    m: u8,
+    k: u8,
+    kind: u8,
+    new_form: bool,
+) -> Checked
     requires { ⌜ from ≤ length (now file) ⌝ }
-    ensures { λ r. ⌜ r ≡ streetsChecked n m k kind (drop from (now (file .entry))) ⌝ }
+    ensures { λ r. ⌜ r ≡ streetsChecked n m k kind «new_form» (drop from (now (file .entry))) ⌝ }
 {
     let x = streets_refusal(file, from, n, m);
     if x != 0 {
@@ -80,27 +88,51 @@ fn streets_checked(file: &[u8], from: usize, n: usize, m: u8, k: u8, kind: u8) -
         m: m as usize,
         k: k as usize,
         kind: kind as usize,
+        new_form,
     }
 }
 
-// The streets and the end, from where the reader stands.
-pub fn check_streets<'a>(r: Reader<'a>, n: usize, m: u8, k: u8, kind: u8) -> Checked
-    requires { ⌜ r .count ≤ length (now (r .file)) ⌝ }
-    ensures { λ x. ⌜ x ≡ streetsChecked n m k kind (drop (r .entry .count) (now (r .entry .file))) ⌝ }
+// The weights of a new file from an index on, and the streets and the end behind them.
+fn weights_checked(
+    file: &[u8],
+    from: usize,
+    n: usize,
+    m: u8,
+    k: u8,
+    kind: u8,
+    new_form: bool,
+) -> Checked
+    requires { ⌜ from ≤ length (now file) ⌝ }
+    ensures { λ r. ⌜ r ≡ weightsChecked n m k kind «new_form» (drop from (now (file .entry))) ⌝ }
 {
-    streets_checked(r.file, r.count, n, m, k, kind)
+    if !new_form {
+        return streets_checked(file, from, n, m, k, kind, new_form);
+    }
+    let weights = records::record_at(file, from, Due::Weights { n });
+    let Record::Weights = weights else {
+        return refused_by(weights);
+    };
+    streets_checked(file, from + 2 + n, n, m, k, kind, new_form)
+}
+
+// The weights, the streets and the end, from where the reader stands.
+pub fn check_weights<'a>(r: Reader<'a>, n: usize, m: u8, k: u8, kind: u8, new_form: bool) -> Checked
+    requires { ⌜ r .count ≤ length (now (r .file)) ⌝ }
+    ensures { λ x. ⌜ x ≡ weightsChecked n m k kind «new_form» (drop (r .entry .count) (now (r .entry .file))) ⌝ }
+{
+    weights_checked(r.file, r.count, n, m, k, kind, new_form)
 }
 
 // The scores from where the reader stands, and all behind them.
-pub fn check_scores<'a>(r: Reader<'a>, n: usize, m: u8, k: u8, kind: u8) -> Checked
+pub fn check_scores<'a>(r: Reader<'a>, n: usize, m: u8, k: u8, kind: u8, new_form: bool) -> Checked
     requires { ⌜ r .count ≤ length (now (r .file)) ⌝ }
-    ensures { λ x. ⌜ x ≡ scoresChecked n m k kind (drop (r .entry .count) (now (r .entry .file))) ⌝ }
+    ensures { λ x. ⌜ x ≡ scoresChecked n m k kind «new_form» (drop (r .entry .count) (now (r .entry .file))) ⌝ }
 {
     let scores = next(r, Due::Scores { m });
     let Record::Scores = scores else {
         return refused_by(scores);
     };
-    check_streets(past(r, 2 + 2 * (m as usize)), n, m, k, kind)
+    check_weights(past(r, 2 + 2 * (m as usize)), n, m, k, kind, new_form)
 }
 
 // The town from where the reader stands, and all behind it.
@@ -109,8 +141,15 @@ pub fn check_town<'a>(r: Reader<'a>) -> Checked
     ensures { λ x. ⌜ x ≡ checkedFile (drop (r .entry .count) (now (r .entry .file))) ⌝ }
 {
     let town = next(r, Due::Town);
-    let Record::Town { n, m, k, kind } = town else {
+    let Record::Town {
+        n,
+        m,
+        k,
+        kind,
+        new_form,
+    } = town
+    else {
         return refused_by(town);
     };
-    check_scores(past(r, 7), n, m, k, kind)
+    check_scores(past(r, 7), n, m, k, kind, new_form)
 }

@@ -3,22 +3,33 @@ use crate::fields;
 ghost use mathlib.Core.Path.{_≡_};
 ghost use Prim.Native.Nat.{_≤_};
 ghost use lib.ListN.{length, drop};
-ghost use Rattle.survey_file.specs.Decode.{townFields, scoresFields, streetFields, endFields};
+ghost use Rattle.survey_file.specs.Decode.{townFields, scoresFields, weightsFields, streetFields, endFields};
 ghost use Rattle.file_reader.specs.Answers.{recordUnless, townAnswer, streetAnswer, recordOf, numberOf};
 
-// The record that is due, with what its fields are held against: the number of sites, and the number of the street.
+// The record that is due, with what its fields are held against: the numbers of sites and of streets, and the number of the street.
 pub enum Due {
     Town,
     Scores { m: u8 },
+    Weights { n: usize },
     Street { m: u8, number: usize },
     End,
 }
 
-// What reading a record gives: the sizes and the kind of a town, the scores, the length of a street's list, the end, or the refusal's number.
+// What reading a record gives: the sizes, the kind and the form of a town, the scores, the weights, the length of a street's list, the end, or the
+// refusal's number.
 pub enum Record {
-    Town { n: usize, m: u8, k: u8, kind: u8 },
+    Town {
+        n: usize,
+        m: u8,
+        k: u8,
+        kind: u8,
+        new_form: bool,
+    },
     Scores,
-    Street { size: usize },
+    Weights,
+    Street {
+        size: usize,
+    },
     End,
     Refused(u8),
 }
@@ -33,9 +44,9 @@ pub fn number_of(answer: Record) -> u8
     }
 }
 
-// The record TN, past its mark.
-fn town_in(rest: &[u8]) -> Record
-    ensures { λ r. ⌜ r ≡ recordUnless (townFields (now (rest .entry))) (townAnswer (now (rest .entry))) ⌝ }
+// The record TN or, in a file of the new form, TW, past its mark.
+fn town_in(rest: &[u8], new_form: bool) -> Record
+    ensures { λ r. ⌜ r ≡ recordUnless (townFields (now (rest .entry))) (townAnswer «new_form» (now (rest .entry))) ⌝ }
 {
     let x = fields::town_refusal(rest);
     if x != 0 {
@@ -46,6 +57,7 @@ fn town_in(rest: &[u8]) -> Record
         m: rest[4],
         k: rest[5],
         kind: rest[6],
+        new_form,
     }
 }
 
@@ -58,6 +70,17 @@ fn scores_in(rest: &[u8], m: u8) -> Record
         return Record::Refused(x);
     }
     Record::Scores
+}
+
+// The record HW, past its mark.
+fn weights_in(rest: &[u8], n: usize) -> Record
+    ensures { λ r. ⌜ r ≡ recordUnless (weightsFields n (now (rest .entry))) Record.Weights ⌝ }
+{
+    let x = fields::weights_refusal(rest, n);
+    if x != 0 {
+        return Record::Refused(x);
+    }
+    Record::Weights
 }
 
 // The record ST, past its mark.
@@ -98,7 +121,14 @@ fn record_in(rest: &[u8], due: Due) -> Record
             let Due::Town = due else {
                 return Record::Refused(13);
             };
-            town_in(rest)
+            town_in(rest, false)
+        }
+        // TW
+        0x5754 => {
+            let Due::Town = due else {
+                return Record::Refused(13);
+            };
+            town_in(rest, true)
         }
         // SC
         0x4353 => {
@@ -106,6 +136,13 @@ fn record_in(rest: &[u8], due: Due) -> Record
                 return Record::Refused(13);
             };
             scores_in(rest, m)
+        }
+        // HW
+        0x5748 => {
+            let Due::Weights { n } = due else {
+                return Record::Refused(13);
+            };
+            weights_in(rest, n)
         }
         // ST
         0x5453 => {

@@ -7,12 +7,16 @@ ghost use lib.ListN.{length};
 ghost use Rattle.counting.specs.Bounds.{mostStreets, mostSites};
 ghost use Rattle.counting.specs.Buffers.{joined, Written};
 ghost use Rattle.survey.specs.Rows.{rowAt, rankedPart};
-ghost use Rattle.survey_file.specs.Encode.{word, townBytes, scoresBytes, listBytes, streetBytes};
+ghost use Rattle.survey_file.specs.Encode.{townMark, word, townBytes, scoresBytes, weightsBytes, listBytes, streetBytes};
 
-// The marks: the letters TN, SC, ST and EN as 16-bit numbers.
+// The marks: the letters TN and, in a new file, TW, then SC, HW, ST and EN as 16-bit numbers.
 const TOWN: u16 = 0x4E54;
 
+const NEW_TOWN: u16 = 0x5754;
+
 const SCORES: u16 = 0x4353;
+
+const WEIGHTS: u16 = 0x5748;
 
 const STREET: u16 = 0x5453;
 
@@ -28,12 +32,30 @@ pub fn write_word(x: u16, file: &mut [u8], i: usize) -> usize
     i + 2
 }
 
-// The record TN: the sizes and the kind.
-pub fn write_town(n: usize, m: usize, k: usize, kind: usize, file: &mut [u8], i: usize) -> usize
-    requires { ⌜ (n ≤ mostStreets) × (m ≤ mostSites) × (k ≤ mostSites) × (kind ≤ 1) × (i + 7 ≤ length (now file)) ⌝ }
-    ensures { λ r. ⌜ Written (now (file .entry)) i (townBytes n m k kind) (now (file .exit)) r ⌝ }
+// The mark of the first record, which says the file's form.
+pub fn town_mark(new_form: bool) -> u16
+    ensures { λ r. ⌜ r ≡ townMark «new_form» ⌝ }
 {
-    let behind_mark = write_word(TOWN, file, i);
+    if new_form {
+        return NEW_TOWN;
+    }
+    TOWN
+}
+
+// The record TN, in a new file TW: the sizes and the kind.
+pub fn write_town(
+    new_form: bool,
+    n: usize,
+    m: usize,
+    k: usize,
+    kind: usize,
+    file: &mut [u8],
+    i: usize,
+) -> usize
+    requires { ⌜ (n ≤ mostStreets) × (m ≤ mostSites) × (k ≤ mostSites) × (kind ≤ 1) × (i + 7 ≤ length (now file)) ⌝ }
+    ensures { λ r. ⌜ Written (now (file .entry)) i (townBytes «new_form» n m k kind) (now (file .exit)) r ⌝ }
+{
+    let behind_mark = write_word(town_mark(new_form), file, i);
     let next = write_word(n as u16, file, behind_mark);
     file[next] = m as u8;
     file[next + 1] = k as u8;
@@ -51,6 +73,18 @@ pub fn write_scores(m: usize, scores: &[u16], file: &mut [u8], i: usize) -> usiz
         next = write_word(scores[j], file, next);
     }
     next
+}
+
+// The record HW of a new file: the weights. An old file has none.
+pub fn write_weights(new_form: bool, weights: &[u8], file: &mut [u8], i: usize) -> usize
+    requires { ⌜ i + length (weightsBytes «new_form» (now weights)) ≤ length (now file) ⌝ }
+    ensures { λ r. ⌜ Written (now (file .entry)) i (weightsBytes «new_form» (now (weights .entry))) (now (file .exit)) r ⌝ }
+{
+    if !new_form {
+        return i;
+    }
+    let behind_mark = write_word(WEIGHTS, file, i);
+    write_list(weights, file, behind_mark)
 }
 
 // The list of a street, out of its row.

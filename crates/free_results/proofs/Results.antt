@@ -32,11 +32,7 @@ at-most-list m sites h a i = let (j, l, e) = has-index a sites i in rw (← e) (
 -- the weights of an accepted survey are what the engine asks for
 pub weights-ready : {t : Town} → Accepted t → (even : Bool) → (even ≡ true → Even (t .weights)) → Weighed (t .n) (t .weights) even
 weights-ready {t} ok even equal =
-    record {
-      size = ok .weights-fit;
-      small = weight-bound (t .weights) (ok .sound-weights);
-      equal = λ e s l. equal e s (omega (arith, ok .weights-fit));
-    }
+    record { size = ok .weights-fit; small = weight-bound (t .weights) (ok .sound-weights); equal = equal }
 
 module _ {t : Town} (ok : Accepted t) {state : State} (held : Held (score t) (t .n) state) where
   -- the streets' bests may be summed by their weights

@@ -73,7 +73,7 @@ pub even-sum : {n : ℕ} {weights : List ℕ} {even : Bool} → Weighed n weight
     → x ≡ sumOf n f → w * x ≡ sumOf n (λ s. at weights s * f s)
 even-sum {n} {weights} h set f {w} {x} e q =
     ap (λ (y : ℕ). y * x) e ∙ ap (λ (y : ℕ). at weights 0 * y) q ∙ sum-times n (at weights 0) f
-    ∙ sumOf-same n _ _ (λ s l. ap (λ (y : ℕ). y * f s) (sym (h .equal set s l)))
+    ∙ sumOf-same n _ _ (λ s l. ap (λ (y : ℕ). y * f s) (sym (h .equal set s (omega (arith, h .size)))))
 
 -- ---- a sum by parts
 -- scores stay scores in a part

@@ -9,6 +9,7 @@ use Rattle.counting.specs.Bounds.{mostStreets, mostSites, topScore, topWeight, 
 use Rattle.counting.specs.Words.{sumOf}
 use Rattle.counting.specs.Lists.{at}
 use Rattle.counting.specs.Flags.{Flags}
+use Rattle.survey.specs.Rows.{Even}
 use Rattle.tables.specs.Tables.{siteValue}
 use Rattle.free_plan.specs.Greedy.{best, total, totalWith}
 use Rattle.free_rounds.specs.declared.State.{State}
@@ -57,7 +58,7 @@ Weights weights = (s : ℕ) → at weights s ≤ topWeight
 pub record Weighed (n : ℕ) (weights : List ℕ) (even : Bool) : Type 0 where
   pub size : length weights ≡ n
   pub small : Weights weights
-  pub equal : even ≡ true → (s : ℕ) → s < n → at weights s ≡ at weights 0
+  pub equal : even ≡ true → Even weights
 
 -- what a site counts for a street, in a table by site: its score times the street's weight
 abbrev pub counted : List ℕ → List ℕ → ℕ → ℕ → ℕ → ℕ

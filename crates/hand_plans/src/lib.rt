@@ -1,5 +1,5 @@
 // The test of a hand-made plan: the number of document 01 that turns it down, and 0 where it passes.
-use survey::check;
+use survey_check::check;
 ghost use mathlib.Core.Path.{_≡_};
 ghost use Prim.Native.Nat.{_+_, _*_, _≤_, _<_, suc};
 ghost use lib.ListN.{length};

@@ -1,4 +1,5 @@
-// What a survey file is refused for, read from front to end, and 0 where it is right.
+// What a survey file of either form is refused for, read from front to end, and 0 where it is right.
+use crate::surveys;
 ghost use Prim.Native.Nat.{_+_, _*_, _≤_};
 
 // Where a record ends, and the number that it is refused for.
@@ -15,7 +16,7 @@ fn wide(b: u8) -> usize
 }
 
 // The byte at an index, and 0 past the end.
-fn byte(file: &[u8], i: usize) -> usize
+pub fn byte(file: &[u8], i: usize) -> usize
     ensures { λ r. ⌜ r ≤ 255 ⌝ }
 {
     if i < file.len() {
@@ -25,7 +26,7 @@ fn byte(file: &[u8], i: usize) -> usize
 }
 
 // The two bytes at an index as a number, low byte first.
-fn number(file: &[u8], i: usize) -> usize
+pub fn number(file: &[u8], i: usize) -> usize
     requires { ⌜ i ≤ 100000 ⌝ }
     ensures { λ r. ⌜ r ≤ 65535 ⌝ }
 {
@@ -56,9 +57,19 @@ fn is_outside(x: usize, most: usize) -> bool {
     most < x
 }
 
+// Whether a file's first mark is that of the new form.
+pub fn is_new(file: &[u8]) -> bool {
+    mark_refusal(file, 0, b'T', b'W') == 0
+}
+
+// The second letter of the first mark that is due: every mark but TW stands where TN is due.
+fn form_letter(file: &[u8]) -> u8 {
+    if is_new(file) { b'W' } else { b'N' }
+}
+
 // The town's record.
 fn town_refusal(file: &[u8]) -> u8 {
-    let x = mark_refusal(file, 0, b'T', b'N');
+    let x = mark_refusal(file, 0, b'T', form_letter(file));
     if x != 0 {
         return x;
     }
@@ -104,6 +115,36 @@ fn scores_refusal(file: &[u8], m: usize) -> u8
         return 12;
     }
     falling_refusal(file, 9, m)
+}
+
+// 24: the weights from an index up to another.
+fn weighed_refusal(file: &[u8], from: usize, to: usize) -> u8
+    requires { ⌜ (from ≤ to) × (to ≤ 100000) ⌝ }
+{
+    for i in from..to {
+        let x = surveys::weight_refusal(byte(file, i) as u8);
+        if x != 0 {
+            return x;
+        }
+    }
+    0
+}
+
+// The weights' record, behind the scores'; an old file has none.
+fn weights_refusal(file: &[u8], from: usize, n: usize) -> u8
+    requires { ⌜ (from ≤ 1000) × (n ≤ 300) ⌝ }
+{
+    if !is_new(file) {
+        return 0;
+    }
+    let x = mark_refusal(file, from, b'H', b'W');
+    if x != 0 {
+        return x;
+    }
+    if file.len() < from + 2 + n {
+        return 12;
+    }
+    weighed_refusal(file, from + 2, from + 2 + n)
 }
 
 // Whether a byte stands in a file from an index up to another.
@@ -196,7 +237,32 @@ fn streets_refusal(file: &[u8], from: usize, n: usize, m: usize) -> u8
     end_refusal(file, at)
 }
 
-// A whole file, whose streets are counted up to 300.
+// The streets of a file, counted up to 300: the files that are read here are shorter than so many records, or weights.
+pub fn streets_in(file: &[u8]) -> usize
+    ensures { λ r. ⌜ r ≤ 300 ⌝ }
+{
+    let n = number(file, 2);
+    if 300 < n { 300 } else { n }
+}
+
+// Where the weights' record of a file would begin.
+pub fn weights_start(file: &[u8]) -> usize
+    ensures { λ r. ⌜ r ≤ 519 ⌝ }
+{
+    9 + 2 * byte(file, 4)
+}
+
+// Where the streets' records of a file begin.
+pub fn streets_start(file: &[u8]) -> usize
+    ensures { λ r. ⌜ r ≤ 821 ⌝ }
+{
+    if is_new(file) {
+        return weights_start(file) + 2 + streets_in(file);
+    }
+    weights_start(file)
+}
+
+// A whole file.
 pub fn refusal(file: &[u8]) -> u8 {
     let x = town_refusal(file);
     if x != 0 {
@@ -207,9 +273,10 @@ pub fn refusal(file: &[u8]) -> u8 {
     if x != 0 {
         return x;
     }
-    let n = number(file, 2);
-    if 300 < n {
-        return streets_refusal(file, 9 + 2 * m, 300, m);
+    let n = streets_in(file);
+    let x = weights_refusal(file, weights_start(file), n);
+    if x != 0 {
+        return x;
     }
-    streets_refusal(file, 9 + 2 * m, n, m)
+    streets_refusal(file, streets_start(file), n, m)
 }

@@ -35,6 +35,16 @@ fn weights_refusal(weights: &[u8]) -> u8 {
     0
 }
 
+// 25: a weight that isn't 1, where an old file is to be made.
+pub fn lost_refusal(weights: &[u8]) -> u8 {
+    for s in 0..weights.len() {
+        if weights[s] != 1 {
+            return 25;
+        }
+    }
+    0
+}
+
 // Whether a byte stands among the first ones of a row.
 fn stands_before(row: &[u8], end: usize, b: u8) -> bool
     requires { ⌜ end ≤ length (now row) ⌝ }

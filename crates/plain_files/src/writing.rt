@@ -1,4 +1,4 @@
-// The survey file of a small town, written byte behind byte. Each function gives back the index behind what it wrote.
+// The survey file of a small town, in either form, written byte behind byte. Each function gives back the index behind what it wrote.
 use drawn_towns::Town;
 use plain_search::scores;
 ghost use mathlib.Core.Path.{_≡_};
@@ -34,12 +34,22 @@ fn put_number(file: &mut [u8], i: usize, x: u16) -> usize
     put_two(file, i, (x % 256) as u8, (x / 256) as u8)
 }
 
+// The mark of a form.
+fn put_form(file: &mut [u8], new_form: bool) -> usize
+    ensures { λ r. ⌜ r ≡ 2 ⌝ }
+{
+    if new_form {
+        return put_two(file, 0, b'T', b'W');
+    }
+    put_two(file, 0, b'T', b'N')
+}
+
 // The town's record.
-fn put_town(file: &mut [u8], town: Town, kind: u8) -> usize
+fn put_town(file: &mut [u8], town: Town, kind: u8, new_form: bool) -> usize
     requires { ⌜ Small town ⌝ }
     ensures { λ r. ⌜ r ≡ 7 ⌝ }
 {
-    put_two(file, 0, b'T', b'N');
+    put_form(file, new_form);
     put_number(file, 2, town.n as u16);
     put_two(file, 4, town.m as u8, town.k as u8);
     put(file, 6, kind)
@@ -55,6 +65,29 @@ fn put_scores(file: &mut [u8], town: Town) -> usize
         next = put_number(file, next, town.scores[i]);
     }
     next
+}
+
+// The weights' record.
+fn put_weights(file: &mut [u8], from: usize, town: Town) -> usize
+    requires { ⌜ Small town × (from ≤ 19) ⌝ }
+    ensures { λ r. ⌜ r ≤ 29 ⌝ }
+{
+    let mut next = put_two(file, from, b'H', b'W');
+    for s in 0..town.n {
+        next = put(file, next, town.weights[s]);
+    }
+    next
+}
+
+// The weights' record of a new file; an old one has none.
+fn put_form_weights(file: &mut [u8], from: usize, town: Town, new_form: bool) -> usize
+    requires { ⌜ Small town × (from ≤ 19) ⌝ }
+    ensures { λ r. ⌜ r ≤ 29 ⌝ }
+{
+    if new_form {
+        return put_weights(file, from, town);
+    }
+    from
 }
 
 // The list of street s.
@@ -84,8 +117,8 @@ fn put_street(file: &mut [u8], from: usize, town: Town, s: usize) -> usize
 
 // The streets' records.
 fn put_streets(file: &mut [u8], from: usize, town: Town) -> usize
-    requires { ⌜ Small town × (from ≤ 19) ⌝ }
-    ensures { λ r. ⌜ r ≤ 99 ⌝ }
+    requires { ⌜ Small town × (from ≤ 29) ⌝ }
+    ensures { λ r. ⌜ r ≤ 109 ⌝ }
 {
     let mut next = from;
     for s in 0..town.n {
@@ -94,13 +127,14 @@ fn put_streets(file: &mut [u8], from: usize, town: Town) -> usize
     next
 }
 
-// The file of a town and a kind of plan, and its length.
-pub fn write(file: &mut [u8], town: Town, kind: u8) -> usize
+// The file of a town and a kind of plan, and its length. An old file loses the weights.
+pub fn write(file: &mut [u8], town: Town, kind: u8, new_form: bool) -> usize
     requires { ⌜ Small town ⌝ }
-    ensures { λ r. ⌜ r ≤ 101 ⌝ }
+    ensures { λ r. ⌜ r ≤ 111 ⌝ }
 {
-    put_town(file, town, kind);
-    let streets = put_scores(file, town);
+    put_town(file, town, kind, new_form);
+    let weights = put_scores(file, town);
+    let streets = put_form_weights(file, weights, town, new_form);
     let end = put_streets(file, streets, town);
     put_two(file, end, b'E', b'N')
 }

@@ -8,6 +8,7 @@ use lib.ListN.{length}
 use Rattle.counting.proofs.Refusals.{or-zero}
 use Rattle.survey.specs.Refusals.{shareRefusal}
 use Rattle.survey.proofs.Sound.{accepted, own-accepted, chosen-within}
+use Rattle.survey.proofs.LeastWeights.{smallest}
 use Rattle.survey.proofs.ByKind.{kind-free, kind-balanced, kind-one}
 use Rattle.plans.specs.Plans.{Plan, freePlan, balancedPlan, planOfKind, planFloor}
 use Rattle.plans.specs.Unweighted.{Ones, plainPlanOfKind}
@@ -110,4 +111,5 @@ floor-given i r told =
     record {
       answer = told;
       plain = λ ones. told-same (λ z. floor-plain (i .town) ones (accepted (i .town) (i .k) _ z .some-street) (i .k)) told;
+      factor = λ y. smallest (accepted (i .town) (i .k) _ (told-passed told y));
     }

@@ -6,6 +6,7 @@ use mathlib.Core.Path.{_≡_}
 use mathlib.Core.Bool.{true}
 use mathlib.Core.List.{List}
 use Rattle.counting.specs.Buffers.{after}
+use Rattle.survey.specs.Rows.{leastWeight, SmallestWeight}
 use Rattle.survey.specs.Refusals.{surveyRefusal}
 use Rattle.plans.specs.Plans.{Plan, freePlan, balancedPlan, planOfKind, planFloor}
 use Rattle.plans.specs.Unweighted.{Ones, plainPlanOfKind, plainFloor}
@@ -47,3 +48,5 @@ pub record FloorGiven (i : SurveyInput) (r : Answer) : Type 0 where
   pub answer : Told r (floorRefusal i) (planFloor (i .town) (i .k))
   -- with every weight 1 it is the floor by the scores alone
   pub plain : Ones (i .town) → Told r (floorRefusal i) (plainFloor (i .town) (i .k))
+  -- the weight that it is multiplied by is no more than any street's, and some street has it
+  pub factor : accepts r ≡ true → SmallestWeight (i .town) (leastWeight (i .town))

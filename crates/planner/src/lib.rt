@@ -25,5 +25,6 @@ pub use hand_calls::hand_plan;
 
 // survey files
 pub use file_calls::Read;
+pub use file_calls::convert_file;
 pub use file_calls::read_file;
 pub use file_calls::write_file;

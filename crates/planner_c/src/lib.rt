@@ -8,14 +8,14 @@ ghost use mathlib.Core.Path.{_≡_};
 ghost use lib.ListN.{length};
 ghost use Rattle.survey.specs.Town.{was, is};
 ghost use Rattle.survey.specs.Rows.{rankedPart};
-ghost use Rattle.refusals.specs.Inputs.{surveyLent, rowLent, listLent, divisionLent, planLent, handLent, writeLent, readLent};
+ghost use Rattle.refusals.specs.Inputs.{surveyLent, rowLent, listLent, divisionLent, planLent, handLent, writeLent, readLent, convertLent};
 ghost use Rattle.call_answers.specs.Answers.{number, total};
 ghost use Rattle.survey_calls.specs.Calls.{checkedNumber, SurveyChecked, RowScored};
 ghost use Rattle.list_calls.specs.Calls.{FreeDivided, BalancedDivided, ListTotalled};
 ghost use Rattle.plan_calls.specs.Calls.{Planned, FloorGiven};
 ghost use Rattle.hand_calls.specs.Calls.{HandTested};
-ghost use Rattle.file_calls.specs.Calls.{FileWritten};
-ghost use Rattle.planner_c.specs.Packed.{version, packed, PacksChecked, PacksAnswer, sizesWere, sizesAre, FileReadInto};
+ghost use Rattle.file_calls.specs.Calls.{FileWritten, FileConverted};
+ghost use Rattle.planner_c.specs.Packed.{version, packed, PacksChecked, PacksAnswer, formOf, sizesWere, sizesAre, FileReadInto};
 
 // A refusal as one number: its own in the upper half.
 fn packed_refusal(x: u8) -> u64
@@ -49,7 +49,7 @@ fn packed_answer(answer: Answer) -> u64
 pub extern "C" fn planner_version() -> u32
     ensures { λ r. ⌜ r ≡ version ⌝ }
 {
-    202605
+    202606
 }
 
 // Checks a survey of n streets and m sites of which k are to be chosen; its total is 0.
@@ -208,24 +208,26 @@ pub extern "C" fn planner_hand_plan(
     ))
 }
 
-// Writes the survey file into a buffer of any length; the total is the file's length.
+// Writes the survey file into a buffer of any length, in the old form where `form` is 0 and else in the new one; the total is the file's length.
 #[no_mangle]
 pub extern "C" fn planner_write_file(
     n: usize,
     m: usize,
     k: usize,
     kind: usize,
+    form: usize,
     scores: &[u16],
+    weights: &[u8],
     rows: &[u8],
     file: &mut [u8],
 ) -> u64
-    ensures { λ r. ⌜ PacksAnswer (FileWritten (writeLent n m k kind scores rows file) (is file)) r ⌝ }
+    ensures { λ r. ⌜ PacksAnswer (FileWritten (writeLent n m k kind (formOf form) scores weights rows file) (is file)) r ⌝ }
 {
-    packed_answer(planner::write_file(n, m, k, kind, scores, rows, file))
+    packed_answer(planner::write_file(n, m, k, kind, form != 0, scores, weights, rows, file))
 }
 
-// Reads a survey file of any length into a buffer of 64 scores and one of 25,600 row bytes; its sizes and kind come back through four lent numbers,
-// which a refusal leaves as they were. The total is 0.
+// Reads a survey file of any length into a buffer of 64 scores, one of 400 weights and one of 25,600 row bytes; its sizes, kind and form, 0 the old one
+// and 1 the new one, come back through five lent numbers, which a refusal leaves as they were. The total is 0.
 #[no_mangle]
 pub extern "C" fn planner_read_file(
     file: &[u8],
@@ -233,12 +235,15 @@ pub extern "C" fn planner_read_file(
     m: &mut usize,
     k: &mut usize,
     kind: &mut usize,
+    form: &mut usize,
     scores: &mut [u16],
+    weights: &mut [u8],
     rows: &mut [u8],
 ) -> u64
-    ensures { λ r. ⌜ FileReadInto (readLent file scores rows) (is scores) (is rows) (sizesWere n m k kind) (sizesAre n m k kind) r ⌝ }
+    ensures { λ r. ⌜ FileReadInto (readLent file scores weights rows) (is scores) (is weights) (is rows) (sizesWere n m k kind form)
+        (sizesAre n m k kind form) r ⌝ }
 {
-    let answer = planner::read_file(file, scores, rows);
+    let answer = planner::read_file(file, scores, weights, rows);
     match answer {
         Read::Refused(x) => packed_refusal(x),
         Read::Survey {
@@ -246,12 +251,22 @@ pub extern "C" fn planner_read_file(
             m: sites,
             k: chosen,
             kind: sort,
+            new_form,
         } => {
             *n = streets;
             *m = sites;
             *k = chosen;
             *kind = sort;
+            *form = new_form as usize;
             0
         }
     }
+}
+
+// Puts a survey file into the old form where `form` is 0 and else into the new one, in a buffer of any length; the total is the length there.
+#[no_mangle]
+pub extern "C" fn planner_convert_file(file: &[u8], form: usize, buffer: &mut [u8]) -> u64
+    ensures { λ r. ⌜ PacksAnswer (FileConverted (convertLent file (formOf form) buffer) (is buffer)) r ⌝ }
+{
+    packed_answer(planner::convert_file(file, form != 0, buffer))
 }

@@ -25,7 +25,7 @@ module _ {t : Town} (ok : Accepted t) where
 
   -- the key puts the streets in the order by counted score, then by place
   pub by-counted-score : ByCountedScore t
-  by-counted-score a s u l h =
+  by-counted-score a s u =
       counted-first (value t) (streetPlace t) mostValue (t .m) a s u (valued-bound ok s a) (valued-bound ok u a) (few s a) (few u a)
 
   -- it puts first a street that counts the site for no less

@@ -10,5 +10,4 @@ use Rattle.plans.specs.Plans.{streetKey}
 -- the key puts a street in front of another exactly where its counted score for the site is higher, or equal and its place better, unranked after all
 -- places; equal keys leave the order to the streets' numbers
 abbrev pub ByCountedScore : Town → Type 0
-ByCountedScore t =
-    (a s u : ℕ) → s < t .n → u < t .n → (streetKey t a s < streetKey t a u) ↔ ComesFirst (value t) (streetPlace t) (t .m) a s u
+ByCountedScore t = (a s u : ℕ) → (streetKey t a s < streetKey t a u) ↔ ComesFirst (value t) (streetPlace t) (t .m) a s u

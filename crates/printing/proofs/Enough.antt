@@ -1,7 +1,8 @@
--- The first 27,740 bytes of an input, one more than the longest file has, decide what is printed, so that the program reads no more of them.
+-- The first 28,142 bytes of an input, one more than the longest file has, decide what is printed, so that the program reads no more of them.
 -- Assumes nothing.
 use mathlib.Core.Path.{_≡_, refl, sym, ap, _∙_}
 use mathlib.Core.Logic.{by-cases}
+use mathlib.Core.Bool.{Bool, true, false}
 use mathlib.Core.List.{List, [], _∷_}
 use Prim.Native.Nat.{ℕ, zero, suc, _+_, _-_, _*_, _≤_, _<_}
 use native.Mathlib.Nat.{sub-zero, zero-sub, suc-sub-suc}
@@ -15,15 +16,15 @@ use Rattle.counting.specs.Bounds.{mostStreets, mostSites}
 use Rattle.counting.specs.Words.{_when_, _unless_, _orElse_, firstOf}
 use Rattle.counting.specs.Lists.{at}
 use Rattle.counting.proofs.Refusals.{or-zero, when-zero, within}
-use Rattle.survey_file.specs.Encode.{townMark, scoresMark, streetMark, endMark, mostFile}
-use Rattle.survey_file.specs.Decode.{wordAt, shortRefusal, markRefusal, townFields, scoresIn, scoresFields, listIn, byteField, streetFields}
-use Rattle.survey_file.specs.Decode.{endFields, past, streetRecord, streetsAndEnd, streetsIn, sitesIn, chosenIn, kindIn, townIn, fileRefusal}
+use Rattle.survey_file.specs.Encode.{townMark, scoresMark, weightsMark, streetMark, endMark, mostFile}
+use Rattle.survey_file.specs.Decode.{wordAt, shortRefusal, markRefusal, townFields, scoresIn, scoresFields, weightsRecord, weightsSize, listIn, byteField}
+use Rattle.survey_file.specs.Decode.{streetFields, endFields, past, streetRecord, streetsAndEnd, formIn, streetsIn, sitesIn, filedIn, fileRefusal}
 use Rattle.survey_file.proofs.Joined.{joined-same}
 use Rattle.survey_file.proofs.Bytes.{Bytes}
 use Rattle.survey_file.proofs.Tries.{short-right}
 use Rattle.survey_file.proofs.Accepting.{town-says, street-says}
 use Rattle.survey_file.proofs.WrittenBack.{encode-decode, town-accepted}
-use Rattle.survey_file.proofs.Lengths.{encode-most}
+use Rattle.survey_file.proofs.Lengths.{size-most, encode-most}
 use Rattle.printing.specs.Texts.{unlessRefused, printed}
 
 -- the second of two tries counts only where the first refuses nothing
@@ -45,9 +46,9 @@ drop-take (suc a) zero list = rw (zero-sub (suc a))
 drop-take (suc a) (suc k) [] = sym (take-all (suc k - suc a) [] (omega arith))
 drop-take (suc a) (suc k) (x ∷ list) = rw (suc-sub-suc k a) (drop-take a k list)
 
--- the tries of the records TN, SC and EN
+-- the tries of the records TN or TW, SC and EN
 abbrev townTries : List ℕ → ℕ
-townTries rest = markRefusal townMark rest orElse townFields rest
+townTries rest = markRefusal (townMark (formIn rest)) rest orElse townFields rest
 
 abbrev scoresTries : ℕ → List ℕ → ℕ
 scoresTries m rest = markRefusal scoresMark rest orElse scoresFields m rest
@@ -70,6 +71,9 @@ module _ (k : ℕ) (rest : List ℕ) (long : k ≤ length rest) where
   same-mark : (due : ℕ) → 2 ≤ k → markRefusal due (take k rest) ≡ markRefusal due rest
   same-mark due l = rw (same-short 2 l, same-word 0 (omega arith))
 
+  same-form : 2 ≤ k → formIn (take k rest) ≡ formIn rest
+  same-form l = ap (λ (x : ℕ). eqb x (townMark true)) (same-word 0 (omega arith))
+
   same-town : 7 ≤ k → townFields (take k rest) ≡ townFields rest
   same-town l = rw (same-short 7 l, same-word 2 (omega arith), same-at 4 (omega arith), same-at 5 (omega arith), same-at 6 (omega arith))
 
@@ -79,6 +83,12 @@ module _ (k : ℕ) (rest : List ℕ) (long : k ≤ length rest) where
       let scores : scoresIn m (take k rest) ≡ scoresIn m rest =
       joined-same m (score (take k rest)) (score rest) (λ i h. ap (λ (x : ℕ). x ∷ []) (same-word (2 + 2 * i) (omega arith))) in
       rw (same-short (2 + 2 * m) l, scores)
+
+  same-weights : (newForm : Bool) (n : ℕ) → 2 + n ≤ k → weightsRecord newForm n (take k rest) ≡ weightsRecord newForm n rest
+  same-weights false n l = refl
+  same-weights true n l =
+      let weights : take n (drop 2 (take k rest)) ≡ take n (drop 2 rest) = rw (drop-take 2 k rest) (take-take n (k - 2) (drop 2 rest) (omega arith)) in
+      rw (same-mark weightsMark (omega arith), same-short (2 + n) l, weights)
 
   same-list : 5 + at rest 4 ≤ k → take (at rest 4) (drop 5 (take k rest)) ≡ listIn rest
   same-list l = rw (drop-take 5 k rest) (take-take (at rest 4) (k - 5) (drop 5 rest) (omega arith))
@@ -158,7 +168,8 @@ module _ (m n size : ℕ) (streets : List ℕ) (few : m ≤ mostSites) (room : n
 -- ---- the file
 module _ (most : ℕ) (file : List ℕ) (much : mostFile < most) (long : most ≤ length file) where
   same-town-record : townTries (take most file) ≡ townTries file
-  same-town-record = rw (same-mark most file long townMark (omega arith), same-town most file long (omega arith))
+  same-town-record =
+      rw (same-form most file long (omega arith), same-mark most file long (townMark (formIn file)) (omega arith), same-town most file long (omega arith))
 
   same-table : (m : ℕ) → m ≤ mostSites → scoresTries m (drop 7 (take most file)) ≡ scoresTries m (drop 7 file)
   same-table m few =
@@ -166,28 +177,40 @@ module _ (most : ℕ) (file : List ℕ) (much : mostFile < most) (long : most �
       let there : k ≤ length (drop 7 file) = omega (arith, length-drop 7 file) in
       rw (drop-take 7 most file, same-mark k (drop 7 file) there scoresMark (omega arith), same-scores k (drop 7 file) there m (omega arith))
 
-  same-rest : (n m : ℕ) → n ≤ mostStreets → m ≤ mostSites
-      → streetsAndEnd n m (drop (9 + 2 * m) (take most file)) ≡ streetsAndEnd n m (drop (9 + 2 * m) file)
-  same-rest n m fewer few =
+  same-each : (newForm : Bool) (n m : ℕ) → n ≤ mostStreets → m ≤ mostSites
+      → weightsRecord newForm n (drop (9 + 2 * m) (take most file)) ≡ weightsRecord newForm n (drop (9 + 2 * m) file)
+  same-each newForm n m fewer few =
+      let k : ℕ = most - (9 + 2 * m) in
       rw (drop-take (9 + 2 * m) most file)
-      (same-streets m n (most - (9 + 2 * m)) (drop (9 + 2 * m) file) few (omega arith) (omega (arith, length-drop (9 + 2 * m) file)))
+      (same-weights k (drop (9 + 2 * m) file) (omega (arith, length-drop (9 + 2 * m) file)) newForm n (omega arith))
+
+  same-rest : (n m size : ℕ) → n ≤ mostStreets → m ≤ mostSites → size ≤ 2 + n
+      → streetsAndEnd n m (drop (9 + 2 * m + size) (take most file)) ≡ streetsAndEnd n m (drop (9 + 2 * m + size) file)
+  same-rest n m size fewer few small =
+      let from : ℕ = 9 + 2 * m + size in
+      rw (drop-take from most file) (same-streets m n (most - from) (drop from file) few (omega arith) (omega (arith, length-drop from file)))
 
   same-file : fileRefusal (take most file) ≡ fileRefusal file
   unfolding fileRefusal
   same-file =
-      rw (same-town-record, same-at most file long 4 (omega arith), same-word most file long 2 (omega arith))
+      rw (same-town-record, same-form most file long (omega arith), same-at most file long 4 (omega arith), same-word most file long 2 (omega arith))
       (or-same (townTries file) _ _ (λ e.
       let town = town-says file e in
+      let n : ℕ = streetsIn file in
       let few : sitesIn file ≤ mostSites = within 2 (sitesIn file) 1 mostSites (lit< tt) (town .sites) .1 in
-      let fewer : streetsIn file ≤ mostStreets = within 1 (streetsIn file) 1 mostStreets (lit< tt) (town .streets) .1 in
-      rw (same-table (sitesIn file) few, same-rest (streetsIn file) (sitesIn file) fewer few)))
+      let fewer : n ≤ mostStreets = within 1 n 1 mostStreets (lit< tt) (town .streets) .1 in
+      rw (
+        same-table (sitesIn file) few,
+        same-each (formIn file) n (sitesIn file) fewer few,
+        same-rest n (sitesIn file) (weightsSize (formIn file) n) fewer few (size-most (formIn file) n),
+      )))
 
 -- a file that is not refused is at most as long as the longest
 accepted-short : (file : List ℕ) → Bytes file → fileRefusal file ≡ 0 → length file ≤ mostFile
 accepted-short file bytes ok =
     omega (
       arith,
-      encode-most (townIn file) (chosenIn file) (kindIn file) (town-accepted file ok),
+      encode-most (filedIn file) (town-accepted file ok),
       ap length (encode-decode file ok bytes),
     )
 

@@ -5,7 +5,7 @@ use mathlib.Core.Path.{_≡_}
 use mathlib.Core.List.{List}
 use lib.ListN.{length, take}
 use Rattle.counting.specs.Bounds.{mostStreets, mostSites, mostRows}
-use Rattle.survey.specs.Town.{Town, plainTown}
+use Rattle.survey.specs.Town.{Town, townOf}
 use Rattle.survey.specs.declared.Survey.{Survey}
 use Rattle.survey.specs.Refusals.{kindRefusal, surveyRefusal}
 use Rattle.refusals.specs.Inputs.{PlanInput}
@@ -28,16 +28,16 @@ pub record ListingAsked (m : ℕ) (rows sites division : List ℕ) : Type 0 wher
   pub rows-there : length division * m ≤ length rows
 
 -- a survey as a program holds it
-abbrev pub surveyHeld : ℕ → ℕ → ℕ → ℕ → List ℕ → List ℕ → Survey
-surveyHeld n m k kind scores rows = record { n = n; m = m; k = k; kind = kind; scores = scores; rows = rows }
+abbrev pub surveyHeld : ℕ → ℕ → ℕ → ℕ → List ℕ → List ℕ → List ℕ → Survey
+surveyHeld n m k kind scores weights rows = record { n = n; m = m; k = k; kind = kind; scores = scores; weights = weights; rows = rows }
 
--- its town: the first m numbers of the score buffer and the first n times m bytes of the row buffer count, and each street has
--- the weight 1
+-- its town: the first m numbers of the score buffer, the first n bytes of the weight buffer and the first n times m bytes of the row buffer count
 abbrev pub townHeld : Survey → Town
-townHeld s = plainTown (s .n) (s .m) (take (s .m) (s .scores)) (take (s .n * s .m) (s .rows))
+townHeld s = townOf (s .n) (s .m) (take (s .m) (s .scores)) (take (s .n) (s .weights)) (take (s .n * s .m) (s .rows))
 
 -- one of which nothing is refused
 pub record SurveyHeld (s : Survey) : Type 0 where
   pub asked : SurveyAsked (townHeld s) (s .k) (s .kind)
   pub scores-long : length (s .scores) ≡ mostSites
+  pub weights-long : length (s .weights) ≡ mostStreets
   pub rows-long : length (s .rows) ≡ mostRows

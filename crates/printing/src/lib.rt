@@ -63,21 +63,21 @@ fn print_plan(
     write_answer(answer, m, rows, chosen, division, out)
 }
 
-// The text of an accepted survey, whose scores and rows are the fronts of two buffers. Each street has the weight 1: a file gives no weights.
+// The text of an accepted survey, whose scores, weights and rows are the fronts of three buffers.
 fn print_survey<'a>(
     n: usize,
     m: usize,
     k: usize,
     kind: usize,
     scores: &'a [u16],
+    weights: &'a [u8],
     rows: &'a [u8],
     out: &mut [u8],
 ) -> usize
-    requires { ⌜ SurveyHeld (surveyHeld n m k kind (now scores) (now rows)) ⌝ }
+    requires { ⌜ SurveyHeld (surveyHeld n m k kind (now scores) (now weights) (now rows)) ⌝ }
     requires { ⌜ mostText ≤ length (now out) ⌝ }
-    ensures { λ r. ⌜ Written (was out) 0 (planText (townHeld (surveyHeld n m k kind (was scores) (was rows))) k kind) (is out) r ⌝ }
+    ensures { λ r. ⌜ Written (was out) 0 (planText (townHeld (surveyHeld n m k kind (was scores) (was weights) (was rows))) k kind) (is out) r ⌝ }
 {
-    let ones = [1u8; Survey::STREETS];
     let mut division = [0u8; Survey::STREETS];
     let mut chosen = [0u8; Survey::SITES];
     let size = n * m;
@@ -87,7 +87,7 @@ fn print_survey<'a>(
         k,
         kind,
         &scores[..m],
-        &ones[..n],
+        &weights[..n],
         &rows[..size],
         &mut division[..n],
         &mut chosen[..k],
@@ -107,6 +107,7 @@ fn print_held(survey: Survey, out: &mut [u8]) -> usize
         survey.k,
         survey.kind,
         &survey.scores,
+        &survey.weights,
         &survey.rows,
         out,
     )
@@ -122,15 +123,23 @@ pub fn print(file: &[u8], out: &mut [u8]) -> usize
     let empty = Survey::empty();
     let mut rows = empty.rows;
     let mut scores = empty.scores;
-    let answer = planner::read_file(file, &mut scores, &mut rows);
+    let mut weights = empty.weights;
+    let answer = planner::read_file(file, &mut scores, &mut weights, &mut rows);
     match answer {
-        Read::Survey { n, m, k, kind } => print_held(
+        Read::Survey {
+            n,
+            m,
+            k,
+            kind,
+            new_form: _,
+        } => print_held(
             Survey {
                 n,
                 m,
                 k,
                 kind,
                 scores,
+                weights,
                 rows,
             },
             out,

@@ -2,9 +2,11 @@
 -- call begins. Each record is written in one place, `..Of`; `..Lent` is the input of a call by its parameters, for its contract.
 -- Assumes nothing.
 use Prim.Native.Nat.{ℕ}
+use mathlib.Core.Bool.{Bool}
 use mathlib.Core.List.{List}
-use Rattle.survey.specs.Town.{Town, Lent, was, town, plainTown}
+use Rattle.survey.specs.Town.{Town, Lent, was, town}
 use Rattle.loads.specs.Loads.{Loads, loadsLent}
+use Rattle.survey_file.specs.Filed.{Filed, filedOf}
 
 -- a survey with k sites to be chosen: check and floor
 pub record SurveyInput : Type 0 where
@@ -84,27 +86,38 @@ abbrev pub handLent : ℕ → ℕ → ℕ → ℕ → Lent → Lent → Lent →
 handLent n m k kind scores weights rows division claimed kilograms litres kilogramLimits litreLimits =
     handOf (town n m scores weights rows) k kind (was division) claimed (loadsLent kilograms litres kilogramLimits litreLimits)
 
--- a survey with its kind, and a buffer for its file; a file gives no weights, so each street has the weight 1
+-- what a file is to hold, its form among it, and a buffer for the file
 pub record WriteInput : Type 0 where
-  pub town : Town
-  pub k : ℕ
-  pub kind : ℕ
+  pub filed : Filed
   pub file : List ℕ
 
-abbrev pub writeOf : Town → ℕ → ℕ → List ℕ → WriteInput
-writeOf t k kind file = record { town = t; k = k; kind = kind; file = file }
+abbrev pub writeOf : Filed → List ℕ → WriteInput
+writeOf filed file = record { filed = filed; file = file }
 
-abbrev pub writeLent : ℕ → ℕ → ℕ → ℕ → Lent → Lent → Lent → WriteInput
-writeLent n m k kind scores rows file = writeOf (plainTown n m (was scores) (was rows)) k kind (was file)
+abbrev pub writeLent : ℕ → ℕ → ℕ → ℕ → Bool → Lent → Lent → Lent → Lent → WriteInput
+writeLent n m k kind newForm scores weights rows file = writeOf (filedOf newForm (town n m scores weights rows) k kind) (was file)
 
--- a file, and buffers for its scores and rows
+-- a file, and buffers for its scores, weights and rows
 pub record ReadInput : Type 0 where
   pub file : List ℕ
   pub scores : List ℕ
+  pub weights : List ℕ
   pub rows : List ℕ
 
-abbrev pub readOf : List ℕ → List ℕ → List ℕ → ReadInput
-readOf file scores rows = record { file = file; scores = scores; rows = rows }
+abbrev pub readOf : List ℕ → List ℕ → List ℕ → List ℕ → ReadInput
+readOf file scores weights rows = record { file = file; scores = scores; weights = weights; rows = rows }
 
-abbrev pub readLent : Lent → Lent → Lent → ReadInput
-readLent file scores rows = readOf (was file) (was scores) (was rows)
+abbrev pub readLent : Lent → Lent → Lent → Lent → ReadInput
+readLent file scores weights rows = readOf (was file) (was scores) (was weights) (was rows)
+
+-- a file, the form in which it is wanted, and a buffer for that
+pub record ConvertInput : Type 0 where
+  pub file : List ℕ
+  pub wanted : Bool
+  pub buffer : List ℕ
+
+abbrev pub convertOf : List ℕ → Bool → List ℕ → ConvertInput
+convertOf file wanted buffer = record { file = file; wanted = wanted; buffer = buffer }
+
+abbrev pub convertLent : Lent → Bool → Lent → ConvertInput
+convertLent file wanted buffer = convertOf (was file) wanted (was buffer)

@@ -7,7 +7,7 @@ use mathlib.Core.Bool.{Bool}
 use mathlib.Core.List.{List}
 use lib.Dec.{ltb, eqb}
 use lib.ListN.{length, take}
-use Rattle.counting.specs.Bounds.{mostSites, mostRows}
+use Rattle.counting.specs.Bounds.{mostStreets, mostSites, mostRows}
 use Rattle.counting.specs.Words.{_when_, _unless_, _orElse_, firstOf, countOf, outside}
 use Rattle.counting.specs.Lists.{at, has, count}
 use Rattle.survey.specs.Town.{Town}
@@ -17,9 +17,11 @@ use Rattle.survey.specs.Refusals.{sitesRefusal, kindRefusal, shareRefusal, leng
 use Rattle.shares.specs.Rounds.{leastShare, largerShares}
 use Rattle.division.specs.Shares.{divisionTotal}
 use Rattle.loads.specs.Loads.{Loads, lengthsRefusal, loadsRefusal, limitsRefusal}
+use Rattle.survey_file.specs.Filed.{formRefusal}
 use Rattle.survey_file.specs.Encode.{encode}
-use Rattle.survey_file.specs.Decode.{fileRefusal}
-use Rattle.refusals.specs.Inputs.{SurveyInput, RowInput, ListInput, DivisionInput, PlanInput, HandInput, WriteInput, ReadInput}
+use Rattle.survey_file.specs.Decode.{fileRefusal, townIn}
+use Rattle.survey_file.specs.FileBuffers.{converted}
+use Rattle.refusals.specs.Inputs.{SurveyInput, RowInput, ListInput, DivisionInput, PlanInput, HandInput, WriteInput, ReadInput, ConvertInput}
 
 -- the number that a call's tries gave for an input is the first of the call's chain
 pub record Tried {A : Type 0} (chain : A → ℕ) (input : A) (x : ℕ) : Type 0 where
@@ -179,15 +181,28 @@ pub record LoadsTaken (t : Town) (loads : Loads) : Type 0 where
   pub lengths : lengthsRefusal (t .n) (t .m) loads ≡ 0
   pub above : loadsRefusal loads ≡ 0
 
--- reading a file into a row buffer and a score buffer
+-- reading a file into a row buffer, a score buffer and a weight buffer
 abbrev pub readRefusal : ReadInput → ℕ
 readRefusal i =
     lengthRefusal (length (i .rows)) mostRows orElse
     lengthRefusal (length (i .scores)) mostSites orElse
+    lengthRefusal (length (i .weights)) mostStreets orElse
     fileRefusal (i .file)
 
--- writing a file; 7: the file buffer is shorter than the file
+-- 7: the buffer is shorter than the file that it is for
+abbrev pub roomRefusal : List ℕ → List ℕ → ℕ
+roomRefusal buffer file = 7 when ltb (length buffer) (length file)
+
+-- writing a file: the survey, 25 for a weight that it would lose, and 7
 abbrev pub writeRefusal : WriteInput → ℕ
 writeRefusal i =
-    surveyRefusal (i .town) (i .k) (kindRefusal (i .kind)) orElse
-    7 when ltb (length (i .file)) (length (encode (i .town) (i .k) (i .kind)))
+    surveyRefusal (i .filed .town) (i .filed .k) (kindRefusal (i .filed .kind)) orElse
+    formRefusal (i .filed .newForm) (i .filed .town .weights) orElse
+    roomRefusal (i .file) (encode (i .filed))
+
+-- converting a file: as the reader tries it, then 25 and 7
+abbrev pub convertRefusal : ConvertInput → ℕ
+convertRefusal i =
+    fileRefusal (i .file) orElse
+    formRefusal (i .wanted) (townIn (i .file) .weights) orElse
+    roomRefusal (i .buffer) (converted (i .wanted) (i .file))

@@ -1,6 +1,6 @@
 // What each call turns down: the number that its definition gives, and 0 where the call is accepted.
 use survey::Survey;
-use survey::check;
+use survey_check::check;
 ghost use mathlib.Core.Path.{_≡_};
 ghost use Rattle.counting.specs.Words.{_when_, _orElse_};
 ghost use Rattle.survey.specs.Town.{town, was};

@@ -1,4 +1,4 @@
-// Draws small towns, compares what every entry of the library answers for each with what a plain search finds, and prints how much was tried
+// Draws small towns, compares what every call of the library but those for files answers for each with what a plain search finds, and prints how much was tried
 // and how many answers were different. The first of these are printed in full.
 use drawn_towns::Town;
 use loads::NUMBERS;
@@ -11,7 +11,6 @@ ghost use Rattle.small_towns.specs.Counted.{Counted};
 mod answers;
 mod balanced;
 mod entries;
-mod files;
 mod free;
 mod hands;
 mod kinds;
@@ -29,7 +28,7 @@ const TOWNS: u64 = 3000;
 const SHOWN: u64 = 3;
 
 // how many answers are compared for each number of sites to choose, for each street, and for the weights of a town
-const ANSWERS: u64 = 66;
+const ANSWERS: u64 = 60;
 
 const STREET_ANSWERS: u64 = 28;
 
@@ -53,15 +52,14 @@ fn wrong_lists(town: Town, shown: bool) -> u64
     count + balanced::wrong_floor(town, shown)
 }
 
-// How many answers about plans of both kinds, and about damaged surveys and files of the town are wrong.
+// How many answers about plans of both kinds, and about damaged surveys of the town are wrong.
 fn wrong_others(seed: &mut u64, numbers: &mut [u64; NUMBERS], town: Town, shown: bool) -> u64
     requires { ⌜ Small town ⌝ }
-    ensures { λ r. ⌜ r ≤ 60 ⌝ }
+    ensures { λ r. ⌜ r ≤ 54 ⌝ }
 {
     let mut count = plans::wrong_plans(seed, numbers, town, 0, shown);
     count = count + plans::wrong_plans(seed, numbers, town, 1, shown);
-    count = count + surveys::wrong_surveys(seed, town, shown);
-    count + files::wrong_files(seed, town, shown)
+    count + surveys::wrong_surveys(seed, town, shown)
 }
 
 impl Counts {
@@ -76,7 +74,7 @@ impl Counts {
         requires { ⌜ Small town × Counted (self .sizes) × (self .sizes .choices ≤ 1000000) ⌝ }
         requires { ⌜ (self .compared ≤ 2000000) × (self .differences ≤ 2000000) ⌝ }
         ensures { λ r. ⌜ Counted (r .sizes) × (r .sizes .choices ≡ self .sizes .choices + 1) ⌝ }
-        ensures counts { λ r. ⌜ (r .compared ≤ self .compared + 66) × (r .differences ≤ self .differences + 66) ⌝ }
+        ensures counts { λ r. ⌜ (r .compared ≤ self .compared + 60) × (r .differences ≤ self .differences + 60) ⌝ }
     {
         let shown = self.differences < SHOWN;
         let sizes = self.sizes;
@@ -113,7 +111,7 @@ impl Counts {
         requires { ⌜ Small town × Counted (self .sizes) × (self .sizes .choices ≤ 100000) ⌝ }
         requires { ⌜ (self .compared ≤ 1900000) × (self .differences ≤ 1900000) ⌝ }
         ensures { λ r. ⌜ Counted (r .sizes) × (r .sizes .choices ≤ self .sizes .choices + 5) ⌝ }
-        ensures counts { λ r. ⌜ (r .compared ≤ self .compared + 590) × (r .differences ≤ self .differences + 590) ⌝ }
+        ensures counts { λ r. ⌜ (r .compared ≤ self .compared + 560) × (r .differences ≤ self .differences + 560) ⌝ }
     {
         self = self.with_streets(town);
         let sites = town.sites;

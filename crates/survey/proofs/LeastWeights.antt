@@ -14,9 +14,10 @@ use Rattle.counting.specs.Words.{_when_}
 use Rattle.counting.specs.Lists.{at}
 use Rattle.counting.proofs.Refusals.{first-zeros}
 use Rattle.counting.proofs.Sums.{at-past}
-use Rattle.survey.specs.Rows.{leastOf}
+use Rattle.survey.specs.Town.{Town}
+use Rattle.survey.specs.Rows.{leastOf, leastWeight, SmallestWeight}
 use Rattle.survey.specs.Refusals.{weightRefusal, weightsRefusal}
-use Rattle.survey.specs.Accepted.{SoundWeights}
+use Rattle.survey.specs.Accepted.{SoundWeights, Accepted}
 
 -- no weight is above the greatest, one past the streets neither
 pub weight-bound : (weights : List ℕ) → SoundWeights weights → (s : ℕ) → at weights s ≤ topWeight
@@ -26,6 +27,18 @@ weight-bound weights sound s = by-cases (decLt s (length weights)) (sound .top s
 pub least-low : (n : ℕ) (weights : List ℕ) (s : ℕ) → s < n → leastOf n weights ≤ at weights s
 least-low zero weights s l = absurd (omega arith)
 least-low (suc n) weights s l = ⊎-elim (λ e. rw e (omega arith)) (λ k. omega (arith, least-low n weights s k)) (eq-or-lt-of-le (le-of-suc-le-suc l))
+
+-- and it is that of some street
+pub least-some : (n : ℕ) (weights : List ℕ) → 1 ≤ n → SoundWeights weights → (s : ℕ) × (s < n) × (at weights s ≡ leastOf n weights)
+least-some zero weights some sound = absurd (omega arith)
+least-some (suc zero) weights some sound = (0, omega arith, omega (arith, weight-bound weights sound 0))
+least-some (suc (suc n)) weights some sound =
+    let (s, l, e) = least-some (suc n) weights (omega arith) sound in
+    by-cases (decLt (at weights (suc n)) (leastOf (suc n) weights)) (λ h. (suc n, omega arith, omega arith)) (λ h. (s, omega arith, omega arith))
+
+pub smallest : {t : Town} → Accepted t → SmallestWeight t (leastWeight t)
+smallest {t} ok =
+    record { low = least-low (t .n) (t .weights); some = least-some (t .n) (t .weights) (ok .some-street) (ok .sound-weights) }
 
 -- where all weights are 1, so is the smallest
 pub least-ones : (n : ℕ) (weights : List ℕ) → 1 ≤ n → ((s : ℕ) → s < n → at weights s ≡ 1) → leastOf n weights ≡ 1

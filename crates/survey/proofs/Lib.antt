@@ -4,5 +4,3 @@ pub mod ByKind
 pub mod LeastWeights
 pub mod Places
 pub mod Lists
-pub mod Ones
-pub mod Bits

@@ -3,4 +3,3 @@ pub mod Rows
 pub mod ByKind
 pub mod Refusals
 pub mod Accepted
-pub mod Bits

@@ -1,6 +1,6 @@
 -- The survey, as document 01 has it under 'The survey': rows, places, scores and weights, and the value of a site for a street.
 -- Assumes nothing.
-use Prim.Native.Nat.{ℕ, zero, suc, _+_, _-_, _*_, _<_, min}
+use Prim.Native.Nat.{ℕ, zero, suc, _+_, _-_, _*_, _≤_, _<_, min}
 use mathlib.Core.Path.{_≡_}
 use mathlib.Core.Bool.{cond}
 use mathlib.Core.List.{List, [], _∷_}
@@ -86,3 +86,8 @@ shortest t = shortestOf (t .n) (t .m) (t .rows)
 -- the smallest weight
 abbrev pub leastWeight : Town → ℕ
 leastWeight t = leastOf (t .n) (t .weights)
+
+-- w is the smallest weight: no street's is less, and some street has it
+pub record SmallestWeight (t : Town) (w : ℕ) : Type 0 where
+  pub low : (s : ℕ) → s < t .n → w ≤ at (t .weights) s
+  pub some : (s : ℕ) × (s < t .n) × (at (t .weights) s ≡ w)

@@ -20,7 +20,7 @@ pub record Town : Type 0 where
 abbrev pub townOf : ℕ → ℕ → List ℕ → List ℕ → List ℕ → Town
 townOf n m scores weights rows = record { n = n; m = m; scores = scores; weights = weights; rows = rows }
 
--- the town of a survey that gives no weights, as a survey file does: each street has the weight 1
+-- the town of a survey that gives no weights, as an old survey file does: each street has the weight 1
 abbrev pub plainTown : ℕ → ℕ → List ℕ → List ℕ → Town
 plainTown n m scores rows = townOf n m scores (replicate n 1) rows
 

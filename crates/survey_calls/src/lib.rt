@@ -20,7 +20,7 @@ pub fn check_survey(
 ) -> Checked
     ensures { λ r. ⌜ SurveyChecked (surveyLent n m k scores weights rows) r ⌝ }
 {
-    let x = survey::check::survey_refusal(n, m, k, 0, scores, weights, rows);
+    let x = survey_check::check::survey_refusal(n, m, k, 0, scores, weights, rows);
     if x != 0 {
         return Checked::Refused(x);
     }

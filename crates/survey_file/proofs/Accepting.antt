@@ -12,14 +12,15 @@ use Rattle.counting.proofs.Refusals.{or-zero, when-zero, exact, first-none}
 use Rattle.survey.specs.Town.{town}
 use Rattle.survey.specs.Refusals.{streetsRefusal, sitesRefusal, chosenRefusal, kindRefusal, scoresRefusal}
 use Rattle.survey_file.specs.Encode.{townMark, scoresMark, streetMark, endMark}
-use Rattle.survey_file.specs.Decode.{wordAt, markRefusal, townFields, scoresIn, scoresFields, listIn, streetFields, endFields, past}
-use Rattle.survey_file.specs.Decode.{streetRecord, streetsAndEnd, streetsIn, sitesIn, chosenIn, kindIn, scoresPart, streetsPart, fileRefusal}
+use Rattle.survey_file.specs.Decode.{wordAt, markRefusal, townFields, scoresIn, scoresFields, weightsRecord, listIn, streetFields, endFields, past}
+use Rattle.survey_file.specs.Decode.{streetRecord, streetsAndEnd, formIn, streetsIn, sitesIn, chosenIn, kindIn}
+use Rattle.survey_file.specs.Decode.{scoresPart, weightsPart, streetsPart, fileRefusal}
 use Rattle.survey_file.proofs.Tries.{short-says, mark-says}
 use Rattle.survey_file.proofs.Rows.{SoundList, list-says}
 
--- of the record TN
+-- of the record TN or TW
 pub record TownRead (file : List ℕ) : Type 0 where
-  pub marked : wordAt file 0 ≡ townMark
+  pub marked : wordAt file 0 ≡ townMark (formIn file)
   pub whole : 7 ≤ length file
   pub streets : streetsRefusal (streetsIn file) ≡ 0
   pub sites : sitesRefusal (sitesIn file) ≡ 0
@@ -50,18 +51,19 @@ pub record EndRead (rest : List ℕ) : Type 0 where
 pub record FileSays (file : List ℕ) : Type 0 where
   pub town : TownRead file
   pub scores : ScoresRead (sitesIn file) (scoresPart file)
+  pub weights : weightsRecord (formIn file) (streetsIn file) (weightsPart file) ≡ 0
   pub street : (i : ℕ) → i < streetsIn file → StreetRead (sitesIn file) (suc i) (past (streetsPart file) i)
   pub end : EndRead (past (streetsPart file) (streetsIn file))
 
--- the tries of TN refuse nothing
-pub town-says : (file : List ℕ) → markRefusal townMark file orElse townFields file ≡ 0 → TownRead file
+-- the tries of TN or TW refuse nothing
+pub town-says : (file : List ℕ) → markRefusal (townMark (formIn file)) file orElse townFields file ≡ 0 → TownRead file
 town-says file e =
-    let (a, e₁) = or-zero (markRefusal townMark file) (townFields file) e in
+    let (a, e₁) = or-zero (markRefusal (townMark (formIn file)) file) (townFields file) e in
     let (b, e₂) = or-zero _ _ e₁ in
     let (c, e₃) = or-zero _ _ e₂ in
     let (d, e₄) = or-zero _ _ e₃ in
     let (f, e₅) = or-zero _ _ e₄ in
-    record { marked = mark-says townMark file a .1; whole = short-says file 7 b; streets = c; sites = d; chosen = f; kind = e₅ }
+    record { marked = mark-says (townMark (formIn file)) file a .1; whole = short-says file 7 b; streets = c; sites = d; chosen = f; kind = e₅ }
 
 -- those of SC
 pub scores-says : (m : ℕ) (rest : List ℕ) → markRefusal scoresMark rest orElse scoresFields m rest ≡ 0 → ScoresRead m rest
@@ -101,12 +103,15 @@ file-says file e =
     let m : ℕ = sitesIn file in
     let streets : List ℕ = streetsPart file in
     let scores : ℕ = markRefusal scoresMark (scoresPart file) orElse scoresFields m (scoresPart file) in
-    let (a, e₁) = or-zero (markRefusal townMark file orElse townFields file) (scores orElse streetsAndEnd n m streets) e in
-    let (b, e₂) = or-zero scores (streetsAndEnd n m streets) e₁ in
-    let (c, e₃) = or-zero (firstOf n (streetRecord m streets)) (markRefusal endMark (past streets n) orElse endFields (past streets n)) e₂ in
+    let weights : ℕ = weightsRecord (formIn file) n (weightsPart file) in
+    let (a, e₁) = or-zero (markRefusal (townMark (formIn file)) file orElse townFields file) (scores orElse weights orElse streetsAndEnd n m streets) e in
+    let (b, e₂) = or-zero scores (weights orElse streetsAndEnd n m streets) e₁ in
+    let (w, e₃) = or-zero weights (streetsAndEnd n m streets) e₂ in
+    let (c, e₄) = or-zero (firstOf n (streetRecord m streets)) (markRefusal endMark (past streets n) orElse endFields (past streets n)) e₃ in
     record {
       town = town-says file a;
       scores = scores-says m (scoresPart file) b;
+      weights = w;
       street = λ i l. street-says m (suc i) (past streets i) (first-none n (streetRecord m streets) c i l);
-      end = end-says (past streets n) e₃;
+      end = end-says (past streets n) e₄;
     }

@@ -10,7 +10,7 @@ use Rattle.counting.specs.Lists.{at}
 use Rattle.counting.specs.Buffers.{joined}
 use Rattle.counting.proofs.Sums.{listOf-at}
 use Rattle.survey_file.specs.Encode.{townMark, scoresMark, streetMark, endMark, word, townBytes, scoresBytes, listBytes}
-use Rattle.survey_file.specs.Decode.{wordAt, scoresIn, listIn, past, streetsIn, sitesIn, chosenIn, kindIn, scoresPart}
+use Rattle.survey_file.specs.Decode.{wordAt, scoresIn, listIn, past, formIn, streetsIn, sitesIn, chosenIn, kindIn, scoresPart}
 use Rattle.survey_file.proofs.Joined.{joined-same}
 use Rattle.survey_file.proofs.Bytes.{Bytes, word-front}
 use Rattle.survey_file.proofs.Accepting.{TownRead, ScoresRead, StreetRead, EndRead}
@@ -29,16 +29,17 @@ past-bytes streets (suc i) h = drop-bytes (past streets i) (5 + at (past streets
 mark-front : (rest : List ℕ) (due : ℕ) → Bytes rest → 2 ≤ length rest → wordAt rest 0 ≡ due → rest ≡ word due ++ drop 2 rest
 mark-front rest due bytes room e = word-front rest 0 bytes room ∙ ap (λ (x : ℕ). word x ++ drop 2 rest) e
 
--- TN is the town's record written again
+-- TN or TW is the town's record written again
 pub town-front : (file : List ℕ) → Bytes file → TownRead file
-    → file ≡ townBytes (streetsIn file) (sitesIn file) (chosenIn file) (kindIn file) ++ scoresPart file
+    → file ≡ townBytes (formIn file) (streetsIn file) (sitesIn file) (chosenIn file) (kindIn file) ++ scoresPart file
 town-front file bytes ok =
     let room : 7 ≤ length file = ok .whole in
     let last : drop 6 file ≡ at file 6 ∷ drop 7 file = drop-cons file 6 0 room in
     let two : drop 5 file ≡ at file 5 ∷ at file 6 ∷ drop 7 file = drop-cons file 5 0 (omega arith) ∙ ap (λ (x : List ℕ). at file 5 ∷ x) last in
     let three : drop 4 file ≡ at file 4 ∷ at file 5 ∷ at file 6 ∷ drop 7 file = drop-cons file 4 0 (omega arith) ∙ ap (λ (x : List ℕ). at file 4 ∷ x) two in
-    mark-front file townMark bytes (omega arith) (ok .marked) ∙ ap (λ (x : List ℕ). word townMark ++ x) (word-front file 2 bytes (omega arith))
-    ∙ ap (λ (x : List ℕ). word townMark ++ (word (streetsIn file) ++ x)) three
+    let mark : List ℕ = word (townMark (formIn file)) in
+    mark-front file (townMark (formIn file)) bytes (omega arith) (ok .marked) ∙ ap (λ (x : List ℕ). mark ++ x) (word-front file 2 bytes (omega arith))
+    ∙ ap (λ (x : List ℕ). mark ++ (word (streetsIn file) ++ x)) three
 
 -- the first i numbers behind the mark SC
 words-front : (rest : List ℕ) → Bytes rest → (i : ℕ) → 2 + 2 * i ≤ length rest

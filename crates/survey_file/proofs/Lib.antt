@@ -1,6 +1,7 @@
 pub mod Tries
 pub mod Joined
 pub mod Bytes
+pub mod Weights
 pub mod Rows
 pub mod Accepting
 pub mod Records
@@ -8,4 +9,5 @@ pub mod Streets
 pub mod Fronts
 pub mod ReadBack
 pub mod WrittenBack
+pub mod Converted
 pub mod Lengths

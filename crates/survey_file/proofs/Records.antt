@@ -1,6 +1,7 @@
 -- Each record as it is written, read again: none of its tries refuses, and its fields are what was written.
 -- Assumes nothing.
 use mathlib.Core.Path.{_≡_, refl, sym, ap, _∙_}
+use mathlib.Core.Bool.{Bool, true, false}
 use mathlib.Core.List.{List, [], _∷_, _++_}
 use Prim.Native.Nat.{ℕ, _+_, _*_, _≤_, _<_}
 use native.Mathlib.Omega.{arith}
@@ -12,20 +13,34 @@ use Rattle.counting.specs.Buffers.{joined}
 use Rattle.counting.proofs.Sums.{listOf-length, listOf-at}
 use Rattle.survey.specs.Refusals.{streetsRefusal, sitesRefusal, chosenRefusal, kindRefusal, scoresRefusal}
 use Rattle.survey_file.specs.Encode.{townMark, scoresMark, streetMark, endMark, word, townBytes, scoresBytes, listBytes}
-use Rattle.survey_file.specs.Decode.{wordAt, markRefusal, townFields, scoresIn, scoresFields, listIn, byteField, streetFields, endFields}
+use Rattle.survey_file.specs.Decode.{wordAt, markRefusal, townFields, scoresIn, scoresFields, listIn, byteField, streetFields, endFields, formIn}
 use Rattle.survey_file.proofs.Tries.{both, not-above, as-due, short-right, mark-right}
 use Rattle.survey_file.proofs.Joined.{joined-even}
 use Rattle.survey_file.proofs.Bytes.{word-back, words-at, word-behind}
 use Rattle.survey_file.proofs.Rows.{SoundList, list-right}
 
--- TN
-module _ (n m k kind : ℕ) (z : List ℕ) where
+-- the first mark tells the form
+pub form-back : (newForm : Bool) (z : List ℕ) → formIn (word (townMark newForm) ++ z) ≡ newForm
+form-back false z = refl
+form-back true z = refl
+
+-- it is the mark of that form
+form-mark : (newForm : Bool) (z : List ℕ) → wordAt (word (townMark newForm) ++ z) 0 ≡ townMark (formIn (word (townMark newForm) ++ z))
+form-mark false z = refl
+form-mark true z = refl
+
+-- TN or TW
+module _ (newForm : Bool) (n m k kind : ℕ) (z : List ℕ) where
+  -- the record and what stands behind it
+  abbrev record-town : List ℕ
+  record-town = townBytes newForm n m k kind ++ z
+
   -- it is accepted where the survey's sizes and the kind are
   pub town-right : streetsRefusal n ≡ 0 → sitesRefusal m ≡ 0 → chosenRefusal k m ≡ 0 → kindRefusal kind ≡ 0 →
-      markRefusal townMark (townBytes n m k kind ++ z) orElse townFields (townBytes n m k kind ++ z) ≡ 0
+      markRefusal (townMark (formIn record-town)) record-town orElse townFields record-town ≡ 0
   town-right a b c d =
-      let rest : List ℕ = townBytes n m k kind ++ z in
-      both _ _ (mark-right townMark rest (omega arith) refl)
+      let rest : List ℕ = record-town in
+      both _ _ (mark-right (townMark (formIn rest)) rest (omega arith) (form-mark newForm (word n ++ (m ∷ k ∷ kind ∷ []) ++ z)))
       (both _ _ (short-right rest 7 (omega arith)) (both _ _ (ap (λ (x : ℕ). streetsRefusal x) (word-back n) ∙ a) (both _ _ b (both _ _ c d))))
 
 -- SC

@@ -1,6 +1,7 @@
--- An accepted file is written back: what is read from it has that file, byte by byte, and is an accepted survey.
+-- An accepted file is written back: what is read from it has that file, byte by byte, and is an accepted survey in a form that keeps its weights.
 -- Assumes nothing.
-use mathlib.Core.Path.{_≡_, sym, ap, _∙_}
+use mathlib.Core.Path.{_≡_, refl, sym, ap, _∙_}
+use mathlib.Core.Bool.{Bool, true, false}
 use mathlib.Core.List.{List, _++_, append-assoc}
 use Prim.Native.Nat.{ℕ, suc, _+_, _-_, _*_, _<_}
 use native.Mathlib.Omega.{arith}
@@ -12,14 +13,15 @@ use Rattle.counting.proofs.Sums.{listOf-length}
 use Rattle.survey.specs.Rows.{rankedPart, rowOf, listOfStreet}
 use Rattle.survey.specs.Refusals.{kindRefusal, rowRefusal, streetRefusal, rowsRefusal, surveyRefusal}
 use Rattle.survey.specs.Accepted.{Accepted}
-use Rattle.survey.proofs.LeastWeights.{ones-accepted}
 use Rattle.survey.proofs.Sound.{accepted}
-use Rattle.survey_file.specs.Encode.{endMark, word, townBytes, scoresBytes, listBytes, streetBytes, encode}
-use Rattle.survey_file.specs.Decode.{wordAt, scoresIn, listIn, past, streetsIn, sitesIn, chosenIn, kindIn, scoresPart, streetsPart, fileRefusal}
-use Rattle.survey_file.specs.Decode.{rowFrom, rowsIn, townIn}
+use Rattle.survey_file.specs.Filed.{formRefusal}
+use Rattle.survey_file.specs.Encode.{endMark, word, townBytes, scoresBytes, weightsBytes, listBytes, streetBytes, streetsBytes, encode}
+use Rattle.survey_file.specs.Decode.{wordAt, scoresIn, weightsIn, weightsSize, listIn, past, formIn, streetsIn, sitesIn, chosenIn, kindIn}
+use Rattle.survey_file.specs.Decode.{scoresPart, weightsPart, streetsPart, fileRefusal, rowFrom, rowsIn, townIn, filedIn}
 use Rattle.survey_file.proofs.Tries.{both, as-due}
 use Rattle.survey_file.proofs.Joined.{joined-same, joined-even, joined-row}
 use Rattle.survey_file.proofs.Bytes.{Bytes}
+use Rattle.survey_file.proofs.Weights.{ones-kept, weights-fit, weights-sound, weights-front}
 use Rattle.survey_file.proofs.Rows.{list-sites, ranked-list, row-right}
 use Rattle.survey_file.proofs.Accepting.{StreetRead, FileSays, file-says}
 use Rattle.survey_file.proofs.Fronts.{drop-bytes, past-bytes, town-front, scores-front, list-size, end-front, streets-front}
@@ -30,6 +32,11 @@ row-long m number rest ok =
     let list : List ℕ = listIn rest in
     let zeros : length {A = ℕ} (replicate (m - length list) 0) ≡ m - length list = length-replicate (m - length list) 0 in
     omega (arith, length-append list (replicate (m - length list) 0), list-size m number rest ok, ok .short)
+
+-- the weights that are read in a form are kept in it
+own-kept : (newForm : Bool) (n : ℕ) (rest : List ℕ) → formRefusal newForm (weightsIn newForm n rest) ≡ 0
+own-kept false n rest = ones-kept false n
+own-kept true n rest = refl
 
 module _ (file : List ℕ) (e : fileRefusal file ≡ 0) where
   -- the number of streets
@@ -48,6 +55,10 @@ module _ (file : List ℕ) (e : fileRefusal file ≡ 0) where
   abbrev scores : List ℕ
   scores = scoresIn m (scoresPart file)
 
+  -- the weights
+  abbrev weights : List ℕ
+  weights = weightsIn (formIn file) n (weightsPart file)
+
   -- what the records show
   ok : FileSays file
   ok = file-says file e
@@ -63,27 +74,31 @@ module _ (file : List ℕ) (e : fileRefusal file ≡ 0) where
       ap (λ (x : List ℕ). rankedPart x) (row-read i l) ∙ ranked-list list (m - length list) (list-sites m list (ok .street i l .sound))
 
   -- the street records and the end, written again
-  streets-written : Bytes file → streets ≡ joined n (streetBytes m (rowsIn file)) ++ word endMark
+  pub streets-written : Bytes file → streets ≡ streetsBytes n m (rowsIn file)
   streets-written bytes =
       let lists : ℕ → List ℕ = λ j. listBytes (suc j) (listIn (past streets j)) in
-      let inner : Bytes streets = drop-bytes file (9 + 2 * m) bytes in
+      let inner : Bytes streets = drop-bytes file (9 + 2 * m + weightsSize (formIn file) n) bytes in
       streets-front n m streets inner (ok .street) n (omega arith)
       ∙ ap (λ (x : List ℕ). joined n lists ++ x) (end-front (past streets n) (past-bytes streets n inner) (ok .end))
       ∙ ap (λ (x : List ℕ). x ++ word endMark)
       (joined-same n lists (streetBytes m (rowsIn file)) (λ i l. ap (λ (x : List ℕ). listBytes (suc i) x) (sym (list-read i l))))
 
   -- an accepted file of bytes is the file of what is read from it
-  pub encode-decode : Bytes file → encode (townIn file) (chosenIn file) (kindIn file) ≡ file
+  pub encode-decode : Bytes file → encode (filedIn file) ≡ file
   unfolding encode
   encode-decode bytes =
-      let town : List ℕ = townBytes n m (chosenIn file) (kindIn file) in
+      let town : List ℕ = townBytes (formIn file) n m (chosenIn file) (kindIn file) in
       let table : List ℕ = scoresBytes m scores in
-      let lists : List ℕ = joined n (streetBytes m (rowsIn file)) in
+      let each : List ℕ = weightsBytes (formIn file) weights in
+      let lists : List ℕ = streetsBytes n m (rowsIn file) in
       let start : 7 + (2 + 2 * m) ≡ 9 + 2 * m = omega arith in
-      let behind : drop (2 + 2 * m) (scoresPart file) ≡ lists ++ word endMark =
-      drop-drop (2 + 2 * m) 7 file ∙ ap (λ (x : ℕ). drop x file) start ∙ streets-written bytes in
-      append-assoc (town ++ table) lists (word endMark) ∙ append-assoc town table (lists ++ word endMark)
-      ∙ ap (λ (x : List ℕ). town ++ (table ++ x)) (sym behind)
+      let behind : drop (weightsSize (formIn file) n) (weightsPart file) ≡ lists =
+      drop-drop (weightsSize (formIn file) n) (9 + 2 * m) file ∙ streets-written bytes in
+      let middle : drop (2 + 2 * m) (scoresPart file) ≡ each ++ lists =
+      drop-drop (2 + 2 * m) 7 file ∙ ap (λ (x : ℕ). drop x file) start
+      ∙ weights-front n (weightsPart file) (formIn file) (drop-bytes file (9 + 2 * m) bytes) (ok .weights) ∙ ap (λ (x : List ℕ). each ++ x) behind in
+      append-assoc (town ++ table) each lists ∙ append-assoc town table (each ++ lists)
+      ∙ ap (λ (x : List ℕ). town ++ (table ++ x)) (sym middle)
       ∙ ap (λ (x : List ℕ). town ++ x) (sym (scores-front m (scoresPart file) (drop-bytes file 7 bytes) (ok .scores)))
       ∙ sym (town-front file bytes (ok .town))
 
@@ -105,10 +120,14 @@ module _ (file : List ℕ) (e : fileRefusal file ≡ 0) where
       (both _ _ (ok .town .chosen)
       (both _ _ (ok .town .kind)
       (both _ _ (as-due 6 (length scores) m table)
-      (both _ _ (as-due 6 (length (replicate n 1)) n (length-replicate n 1))
+      (both _ _ (as-due 6 (length weights) n (weights-fit n (weightsPart file) (formIn file) (ok .weights)))
       (both _ _ (as-due 6 (length (rowsIn file)) (n * m) sizes)
-      (both _ _ (ok .scores .scores) (both _ _ (ones-accepted n) rows-accepted))))))))
+      (both _ _ (ok .scores .scores) (both _ _ (weights-sound n (weightsPart file) (formIn file) (ok .weights)) rows-accepted))))))))
 
   -- so what holds of an accepted survey holds of its town
   pub town-accepted : Accepted (townIn file)
   town-accepted = accepted (townIn file) (chosenIn file) (kindRefusal (kindIn file)) decode-accepted
+
+  -- the form that it has keeps its weights
+  pub decode-kept : formRefusal (formIn file) (townIn file .weights) ≡ 0
+  decode-kept = own-kept (formIn file) n (weightsPart file)

@@ -2,15 +2,18 @@
 -- fixed indices: the mark at 0, the first field at 2.
 -- Assumes nothing.
 use Prim.Native.Nat.{ℕ, zero, suc, _+_, _-_, _*_}
+use mathlib.Core.Path.{_≡_}
+use mathlib.Core.Bool.{Bool, true, false}
 use mathlib.Core.List.{List, _++_}
 use lib.Dec.{ltb, eqb}
 use lib.ListN.{length, take, drop, replicate}
 use Rattle.counting.specs.Words.{_when_, _unless_, _orElse_, firstOf, outside}
 use Rattle.counting.specs.Lists.{at, has}
 use Rattle.counting.specs.Buffers.{joined, listOf}
-use Rattle.survey.specs.Town.{Town, plainTown}
-use Rattle.survey.specs.Refusals.{streetsRefusal, sitesRefusal, chosenRefusal, kindRefusal, scoresRefusal}
-use Rattle.survey_file.specs.Encode.{townMark, scoresMark, streetMark, endMark}
+use Rattle.survey.specs.Town.{Town, townOf}
+use Rattle.survey.specs.Refusals.{streetsRefusal, sitesRefusal, chosenRefusal, kindRefusal, scoresRefusal, weightsRefusal}
+use Rattle.survey_file.specs.Filed.{Filed, filedOf}
+use Rattle.survey_file.specs.Encode.{townMark, scoresMark, weightsMark, streetMark, endMark}
 
 -- the 16-bit number at an index, low byte first
 abbrev pub wordAt : List ℕ → ℕ → ℕ
@@ -24,7 +27,7 @@ shortRefusal rest size = 12 when ltb (length rest) size
 abbrev pub markRefusal : ℕ → List ℕ → ℕ
 markRefusal due rest = shortRefusal rest 2 orElse 13 unless eqb (wordAt rest 0) due
 
--- TN: n, m, K and kind
+-- TN or TW: n, m, K and kind
 abbrev pub townFields : List ℕ → ℕ
 townFields rest =
     shortRefusal rest 7 orElse
@@ -40,6 +43,24 @@ scoresIn m rest = listOf m (λ i. wordAt rest (2 + 2 * i))
 -- SC: the scores
 abbrev pub scoresFields : ℕ → List ℕ → ℕ
 scoresFields m rest = shortRefusal rest (2 + 2 * m) orElse scoresRefusal (scoresIn m rest)
+
+-- the n weights of HW; an old file has none, and all its weights are 1
+abbrev pub weightsIn : Bool → ℕ → List ℕ → List ℕ
+weightsIn false n rest = replicate n 1
+weightsIn true n rest = take n (drop 2 rest)
+
+-- HW: the weights
+abbrev pub weightsFields : ℕ → List ℕ → ℕ
+weightsFields n rest = shortRefusal rest (2 + n) orElse weightsRefusal (weightsIn true n rest)
+
+-- the record HW, which only a new file has, and its bytes
+abbrev pub weightsRecord : Bool → ℕ → List ℕ → ℕ
+weightsRecord false n rest = 0
+weightsRecord true n rest = markRefusal weightsMark rest orElse weightsFields n rest
+
+abbrev pub weightsSize : Bool → ℕ → ℕ
+weightsSize false n = 0
+weightsSize true n = 2 + n
 
 -- the list of ST
 abbrev pub listIn : List ℕ → List ℕ
@@ -80,7 +101,11 @@ streetsAndEnd n m streets =
     markRefusal endMark (past streets n) orElse
     endFields (past streets n)
 
--- the fields of TN, and where SC and the street records begin
+-- the form of a file, which its first mark decides
+abbrev pub formIn : List ℕ → Bool
+formIn file = eqb (wordAt file 0) (townMark true)
+
+-- the fields of its first record, and where SC, HW and the street records begin
 abbrev pub streetsIn : List ℕ → ℕ
 streetsIn file = wordAt file 2
 
@@ -96,14 +121,18 @@ kindIn file = at file 6
 abbrev pub scoresPart : List ℕ → List ℕ
 scoresPart file = drop 7 file
 
+abbrev pub weightsPart : List ℕ → List ℕ
+weightsPart file = drop (9 + 2 * sitesIn file) file
+
 abbrev pub streetsPart : List ℕ → List ℕ
-streetsPart file = drop (9 + 2 * sitesIn file) file
+streetsPart file = drop (9 + 2 * sitesIn file + weightsSize (formIn file) (streetsIn file)) file
 
 -- the first refusal of a file, record by record
 unfoldable pub fileRefusal : List ℕ → ℕ
 fileRefusal file =
-    (markRefusal townMark file orElse townFields file) orElse
+    (markRefusal (townMark (formIn file)) file orElse townFields file) orElse
     (markRefusal scoresMark (scoresPart file) orElse scoresFields (sitesIn file) (scoresPart file)) orElse
+    weightsRecord (formIn file) (streetsIn file) (weightsPart file) orElse
     streetsAndEnd (streetsIn file) (sitesIn file) (streetsPart file)
 
 -- the row that a street's record gives: its list, then zeros
@@ -114,13 +143,18 @@ rowFrom m rest = listIn rest ++ replicate (m - length (listIn rest)) 0
 abbrev pub rowsIn : List ℕ → List ℕ
 rowsIn file = joined (streetsIn file) (λ i. rowFrom (sitesIn file) (past (streetsPart file) i))
 
--- the town that a file holds: each street has the weight 1
+-- the town that a file holds
 abbrev pub townIn : List ℕ → Town
-townIn file = plainTown (streetsIn file) (sitesIn file) (scoresIn (sitesIn file) (scoresPart file)) (rowsIn file)
+townIn file =
+    townOf (streetsIn file) (sitesIn file) (scoresIn (sitesIn file) (scoresPart file)) (weightsIn (formIn file) (streetsIn file) (weightsPart file)) (rowsIn file)
 
--- what reading gives: a town with the number of sites to choose and the kind of plan, or a refusal's number
+-- and all that it holds
+abbrev pub filedIn : List ℕ → Filed
+filedIn file = filedOf (formIn file) (townIn file) (chosenIn file) (kindIn file)
+
+-- what reading gives: what the file holds, or a refusal's number
 pub data Decoded : Type 0 where
-  Given : Town → ℕ → ℕ → Decoded
+  Given : Filed → Decoded
   Refused : ℕ → Decoded
 
 abbrev pub givenUnless : ℕ → Decoded → Decoded
@@ -129,4 +163,11 @@ givenUnless (suc x) given = Refused (suc x)
 
 unfoldable pub decode : List ℕ → Decoded
 unfolding fileRefusal
-decode file = givenUnless (fileRefusal file) (Given (townIn file) (chosenIn file) (kindIn file))
+decode file = givenUnless (fileRefusal file) (Given (filedIn file))
+
+-- a file of which nothing is refused, with its numbers of streets and of sites and its form
+pub record FileTaken (file : List ℕ) (n m : ℕ) (newForm : Bool) : Type 0 where
+  pub ok : fileRefusal file ≡ 0
+  pub streets : n ≡ streetsIn file
+  pub sites : m ≡ sitesIn file
+  pub form : newForm ≡ formIn file

@@ -1,3 +1,4 @@
+pub mod Filed
 pub mod Encode
 pub mod Decode
 pub mod FileBuffers

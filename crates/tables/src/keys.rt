@@ -44,7 +44,7 @@ fn fill_street(n: usize, s: usize, row: &[u8], keys: &mut [u32])
 }
 
 // The keys of all streets at every site: the place, and m + 1 where the street has not ranked the site.
-pub fn fill_keys(n: usize, m: usize, rows: &[u8], keys: &mut [u32])
+fn fill_keys(n: usize, m: usize, rows: &[u8], keys: &mut [u32])
     requires { ⌜ Ranked n m (now rows) ⌝ }
     requires { ⌜ length (now keys) ≡ (m + 1) * n ⌝ }
     ensures { λ _. ⌜ ((a s : ℕ) → a ≤ m → s < n → cell (now (keys .exit)) n a s ≡ rowKey m (now (rows .entry)) a s) ⌝ }
@@ -71,7 +71,7 @@ fn weigh_site(values: &[u32], a: usize, m: usize, keys: &mut [u32])
 }
 
 // The keys by place become those by counted score and then by place.
-pub fn weigh_keys(values: &[u32], n: usize, m: usize, keys: &mut [u32])
+fn weigh_keys(values: &[u32], n: usize, m: usize, keys: &mut [u32])
     requires { ⌜ StreetTable n m (now values) ⌝ }
     requires { ⌜ length (now keys) ≡ (m + 1) * n ⌝ }
     requires { ⌜ ((a s : ℕ) → a ≤ m → s < n → cell (now keys) n a s ≤ mostSites + 1) ⌝ }

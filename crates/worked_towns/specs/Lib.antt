@@ -2,4 +2,5 @@ pub mod Lines
 pub mod Towns
 pub mod Loaded
 pub mod Weighted
+pub mod WeightedFiles
 pub mod Table

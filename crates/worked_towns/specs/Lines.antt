@@ -11,12 +11,14 @@ use Rattle.counting.specs.Buffers.{after}
 use Rattle.balanced_plan.specs.Floor.{depth}
 use Rattle.survey.specs.Town.{Town, townOf, plainTown}
 use Rattle.survey.specs.Rows.{countedOf}
+use Rattle.survey_file.specs.Filed.{filedOf}
 use Rattle.survey_file.specs.Encode.{encode}
-use Rattle.survey_file.specs.Decode.{fileRefusal, townIn, chosenIn, kindIn}
+use Rattle.survey_file.specs.Decode.{fileRefusal, formIn, townIn, chosenIn, kindIn}
+use Rattle.survey_file.specs.FileBuffers.{fileConverted}
 use Rattle.loads.specs.Loads.{Loads, loadsOf, mostLoad}
-use Rattle.refusals.specs.Inputs.{SurveyInput, surveyOf, rowInputOf, listInputOf, divisionOf, planOf, handOf, writeOf}
+use Rattle.refusals.specs.Inputs.{SurveyInput, surveyOf, rowInputOf, listInputOf, divisionOf, planOf, handOf, writeOf, convertOf}
 use Rattle.refusals.specs.Refusals.{checkRefusal, rowScoreRefusal, listTotalRefusal, freeDivisionRefusal, balancedDivisionRefusal, planRefusal}
-use Rattle.refusals.specs.Refusals.{floorRefusal, handRefusal, writeRefusal}
+use Rattle.refusals.specs.Refusals.{floorRefusal, handRefusal, writeRefusal, convertRefusal}
 use Rattle.plans.specs.Plans.{listTotal, freeDivision, freeSites, planTotal, balancedDivision, balancedRounds, Plan, planOfKind, planFloor}
 
 -- a town with the number of sites to choose: n, m, K, scores, weights, rows
@@ -46,10 +48,13 @@ pub data Line : Type 0 where
   Loaded : ℕ → SurveyInput → List ℕ → ℕ → Loads → ℕ → Line
   -- the free plan's bound against a list of K sites: K ^ K * (T - S) ≤ (K - 1) ^ K * T, where T - S and T are as given
   Bound : SurveyInput → List ℕ → ℕ → ℕ → Line
-  -- a survey with its kind, and its file
-  File : SurveyInput → ℕ → List ℕ → Line
+  -- whether a file has the new form, a survey with its kind, and the file
+  FileOf : Bool → SurveyInput → ℕ → List ℕ → Line
   Read : List ℕ → ℕ → Line
-  Write : SurveyInput → ℕ → ℕ → ℕ → Line
+  -- the form, the survey with its kind, and the room for its file
+  WriteOf : Bool → SurveyInput → ℕ → ℕ → ℕ → Line
+  -- a file, the form that is wanted, and the buffer afterwards
+  Convert : List ℕ → Bool → ℕ → List ℕ → Line
 
 -- what a line says is a list of facts: two numbers are equal, two lists are, or a number is at most another
 pub data Fact : Type 0 where
@@ -92,6 +97,19 @@ FreeLoaded = Loaded 0
 abbrev pub BalancedLoaded : SurveyInput → List ℕ → ℕ → Loads → ℕ → Line
 BalancedLoaded = Loaded 1
 
+-- the old form and the new one
+abbrev pub File : SurveyInput → ℕ → List ℕ → Line
+File = FileOf false
+
+abbrev pub NewFile : SurveyInput → ℕ → List ℕ → Line
+NewFile = FileOf true
+
+abbrev pub Write : SurveyInput → ℕ → ℕ → ℕ → Line
+Write = WriteOf false
+
+abbrev pub WriteNew : SurveyInput → ℕ → ℕ → ℕ → Line
+WriteNew = WriteOf true
+
 -- a call's number, and the total that comes with it
 abbrev pub reported : ℕ → ℕ → ℕ → ℕ → List Fact → List Fact
 reported refusal number given total rest = Number refusal number ∷ Number (given when eqb refusal 0) total ∷ rest
@@ -131,12 +149,17 @@ facts (Bound i other missing reached) =
     let t : ℕ = listTotal (i .town) other in
     let s : ℕ = listTotal (i .town) (freeSites (i .town) k) in
     Number (t - s) missing ∷ Number t reached ∷ Number (length other) k ∷ AtMost (k ^ k * missing) ((k - 1) ^ k * reached) ∷ []
-facts (File i kind file) =
+facts (FileOf newForm i kind file) =
     let read : Town = townIn file in
-    Bytes (encode (i .town) (i .k) kind) file ∷ Number (fileRefusal file) 0 ∷ Number (read .n) (i .town .n) ∷ Number (read .m) (i .town .m) ∷
-    Number (chosenIn file) (i .k) ∷ Number (kindIn file) kind ∷ Bytes (read .scores) (i .town .scores) ∷ Bytes (read .rows) (i .town .rows) ∷ []
+    Bytes (encode (filedOf newForm (i .town) (i .k) kind)) file ∷ Number (fileRefusal file) 0 ∷ Number (1 when formIn file) (1 when newForm) ∷
+    Number (read .n) (i .town .n) ∷ Number (read .m) (i .town .m) ∷ Number (chosenIn file) (i .k) ∷ Number (kindIn file) kind ∷
+    Bytes (read .scores) (i .town .scores) ∷ Bytes (read .weights) (i .town .weights) ∷ Bytes (read .rows) (i .town .rows) ∷ []
 facts (Read file x) = Number (fileRefusal file) x ∷ []
-facts (Write i kind room x) = Number (writeRefusal (writeOf (i .town) (i .k) kind (blank room))) x ∷ []
+facts (WriteOf newForm i kind room x) = Number (writeRefusal (writeOf (filedOf newForm (i .town) (i .k) kind) (blank room))) x ∷ []
+facts (Convert file wanted x buffer) =
+    let old : List ℕ = blank (length buffer) in
+    let r : ℕ = convertRefusal (convertOf file wanted old) in
+    Number r x ∷ Bytes (after r (fileConverted wanted file old) old) buffer ∷ []
 
 -- ---- what a line says, as equations
 abbrev pub Says : Fact → Type 0

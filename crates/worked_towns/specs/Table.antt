@@ -8,6 +8,7 @@ use Rattle.worked_towns.specs.Lines.{Places, OfKind, Hand, FreeHand, Bal
 use Rattle.worked_towns.specs.Towns.{p1, p3, p5, p6, p8, riseless, crowded, level, ring, tied, alike, short, three, five, ten, few, p5file, fewfile}
 use Rattle.worked_towns.specs.Loaded.{loaded}
 use Rattle.worked_towns.specs.Weighted.{weighted}
+use Rattle.worked_towns.specs.WeightedFiles.{weightedFiles}
 
 -- P1 to P8
 abbrev pub worked : List Line
@@ -240,4 +241,4 @@ files =
 
 -- the whole table
 abbrev pub table : List Line
-table = worked ++ plans ++ uneven ++ rounding ++ scarce ++ kinds ++ scored ++ refused ++ lists ++ hand ++ unevenHand ++ loaded ++ weighted ++ files
+table = worked ++ plans ++ uneven ++ rounding ++ scarce ++ kinds ++ scored ++ refused ++ lists ++ hand ++ unevenHand ++ loaded ++ weighted ++ files ++ weightedFiles

@@ -15,16 +15,17 @@ returns c =
 
 fill-requires : tie.Need-fill-requires
 fill-requires c κs =
-    let found = c .before .before .before in
+    let found = c .before .before .before .before in
     fill-ready (sizes-given (found .before .before .read-sizes .ensures) (found .found .given .1))
 
 returns-2 : tie.Need-returns-2
 returns-2 c =
-    let filled = c .before .before .before .before in
-    let found = filled .before .before .before .before in
-    let byte = found .before .before .before .before .before .before .before .shared-slice-known .given in
+    let filled = c .before .before .before .before .before .before in
+    let found = filled .before .before .before .before .before in
+    let byte = found .before .before .before .before .before .before .before .before .before .shared-slice-known .given in
     let given = sizes-given (found .before .before .read-sizes .ensures) (found .found .given .1) in
-    file-given given (λ j. omega (arith, byte j)) (filled .fill .ensures .0) (filled .fill .ensures .1)
+    let new = filled .fill .ensures in
+    file-given given (λ j. omega (arith, byte j)) (new .0) (new .1 .0) (new .1 .1)
 
 pub read-file-spec : {M : Type 1} → statement M
 read-file-spec =
@@ -36,8 +37,10 @@ read-file-spec =
     (λ c κs. search needs)
     (λ c. search needs)
     (λ c. search needs)
+    (λ c. search needs)
     returns
     fill-requires
+    (λ c. search needs)
     (λ c. search needs)
     (λ c. search needs)
     returns-2)

@@ -1,9 +1,10 @@
 -- `file_calls::write_file` meets its contract. Assumes nothing.
 use borrow.Author.Needs.{needs}
-use mathlib.Core.Path.{_≡_, refl}
+use mathlib.Core.Path.{_≡_}
 use native.Mathlib.Omega.{arith}
 use lib.ListN.{length}
-use Rattle.survey.specs.Town.{plainTown}
+use Rattle.survey.specs.Town.{townOf}
+use Rattle.survey_file.specs.Filed.{filedOf}
 use Rattle.survey_file.specs.Encode.{encode}
 use Rattle.file_calls.proofs.FilePromises.{write-refused, write-accepted, write-ready, write-room, write-short, write-given}
 use Rattle.file_calls.proofs.write_file.Statement.{statement}
@@ -24,19 +25,23 @@ write-requires c κs =
     (write-accepted tried z, (write-ready tried z, write-room tried z))
 
 -- the length, once it is taken
-sized : (i : tie.After-file-length) → let a = i .before .before .before .before .before .before .before .args in
-    i .file-length .result ≡ length (encode (plainTown (a .n) (a .m) (a .scores .now) (a .rows .now)) (a .k) (a .kind))
-sized i = let a = i .before .before .before .before .before .before .before .args in i .file-length .ensures (a .k) (a .kind) (a .scores .now)
+sized : (i : tie.After-file-length) → let a = i .before .before .before .before .before .before .before .before .args in
+    i .file-length .result
+    ≡ length (encode (filedOf (a .new-form) (townOf (a .n) (a .m) (a .scores .now) (a .weights .now) (a .rows .now)) (a .k) (a .kind)))
+sized i =
+    let a = i .before .before .before .before .before .before .before .before .args in
+    let ok = write-accepted (i .before .before .write-refusal .ensures) (i .before .if1 .left) in
+    i .file-length .ensures (a .k) (a .kind) (a .scores .now) (a .weights .now) (ok .weights-fit)
 
-cast-t16 : tie.Need-cast-t16
-cast-t16 c =
+cast-t18 : tie.Need-cast-t18
+cast-t18 c =
     let i = c .before .before .before .before in
     omega (arith, sized i, write-short (i .before .before .write-refusal .ensures) (i .before .if1 .left))
 
 returns-2 : tie.Need-returns-2
 returns-2 c =
     let i = c .before .before .before .before in
-    write-given (i .before .before .write-refusal .ensures) (i .before .if1 .left) refl (sized i) (c .before .before .write .ensures)
+    write-given (i .before .before .write-refusal .ensures) (i .before .if1 .left) (sized i) (c .before .before .write .ensures)
 
 pub write-file-spec : {M : Type 1} → statement M
 write-file-spec =
@@ -47,6 +52,6 @@ write-file-spec =
     returns
     file-length-requires
     write-requires
-    cast-t16
+    cast-t18
     (λ c. search needs)
     returns-2)

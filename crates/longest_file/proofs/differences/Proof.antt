@@ -1,8 +1,7 @@
 -- `longest_file::differences` meets its contract. Assumes nothing.
 use borrow.Author.Needs.{needs}
-use mathlib.Core.Path.{_≡_, refl}
 use Prim.Native.Nat.{_≤_, _-_}
-use native.Mathlib.Omega.{arith}
+use mathlib.Core.Path.{_≡_}
 use lib.ListN.{length}
 use Rattle.longest_file.proofs.differences.Statement.{statement}
 use Rattle.longest_file.proofs.differences.Tie as tie
@@ -13,16 +12,14 @@ Inv-loop a b count₀ i₀ i-end count i = (i ≤ i-end) × (i-end ≡ length a)
 abbrev μ-loop : tie.MeasureT-loop
 μ-loop a b count₀ i₀ i-end count i = i-end - i
 
-loop-holds : tie.Need-loop-holds Inv-loop μ-loop
-loop-holds c = (search needs, refl, omega arith)
-
 pub differences-spec : {M : Type 1} → statement M
 differences-spec =
     tie.close
     (tie.spec
     Inv-loop
     μ-loop
-    loop-holds
+    (λ c. search needs)
+    (λ c. search needs)
     (λ c. search needs)
     (λ c. search needs)
     (λ c κs. search needs)

@@ -7,11 +7,15 @@ use Rattle.planner_c.proofs.planner_read_file.Tie as tie
 
 returns : tie.Need-returns
 returns c =
-    let e = c .before .before .answer .given .1 in
-    refused-into (c .before .before .before .before .before .before .before .before .read-file .ensures) _ (sym e) (c .packed-refusal .ensures)
+    let told = c .before .before in
+    let read = told .before .before .before .before .before .before .before .before in
+    refused-into (read .read-file .ensures) _ (sym (told .answer .given .1)) (c .packed-refusal .ensures)
 
 returns-2 : tie.Need-returns-2
-returns-2 c = survey-into (c .before .before .before .before .before .before .before .read-file .ensures) _ (sym (c .before .answer2 .given .1))
+returns-2 c =
+    let told = c .before in
+    let read = told .before .before .before .before .before .before .before .before in
+    survey-into (read .read-file .ensures) _ (sym (told .answer2 .given .1))
 
 pub planner-read-file-spec : {M : Type 1} → statement M
 planner-read-file-spec =
@@ -23,7 +27,10 @@ planner-read-file-spec =
     (λ c. search needs)
     (λ c. search needs)
     (λ c. search needs)
+    (λ c. search needs)
+    (λ c. search needs)
     returns
+    (λ c. search needs)
     (λ c. search needs)
     (λ c. search needs)
     returns-2)

@@ -6,7 +6,7 @@ use mathlib.Core.Path.{_≡_, refl, ap, _∙_}
 use mathlib.Core.List.{List}
 use Prim.Native.Nat.{ℕ}
 use lib.ListN.{length, length-replicate}
-use Rattle.counting.specs.Bounds.{mostSites, mostRows}
+use Rattle.counting.specs.Bounds.{mostStreets, mostSites, mostRows}
 use Rattle.listing.specs.Listing.{refusedLine}
 use Rattle.listing.proofs.Sizes.{refused-fits}
 use Rattle.listing.proofs.Rooms.{start-room, written-same}
@@ -17,57 +17,73 @@ use Rattle.printing.proofs.print.Tie as tie
 
 -- ---- the buffers of the empty survey have the lengths that reading asks for
 rows-blank : (e : tie.After-empty) → length (e .empty .result .rows) ≡ mostRows
-rows-blank e = ap length (e .empty .ensures .1 .0 .1) ∙ length-replicate {A = ℕ} mostRows 0
+rows-blank e = ap length (e .empty .ensures .1 .0 .2) ∙ length-replicate {A = ℕ} mostRows 0
 
 scores-blank : (e : tie.After-empty) → length (e .empty .result .scores) ≡ mostSites
 scores-blank e = ap length (e .empty .ensures .1 .0 .0) ∙ length-replicate {A = ℕ} mostSites 0
 
+weights-blank : (e : tie.After-empty) → length (e .empty .result .weights) ≡ mostStreets
+weights-blank e = ap length (e .empty .ensures .1 .0 .1) ∙ length-replicate {A = ℕ} mostStreets 0
+
 -- ---- once the file is read: the buffers keep their lengths
 abbrev at-empty : tie.After-read-file → tie.After-empty
-at-empty r = r .before .before .before .before .before
+at-empty r = r .before .before .before .before .before .before .before
 
 abbrev entry : tie.After-read-file → tie.Start
 entry r = at-empty r .before .before .before
 
 abbrev rows : tie.After-read-file → List ℕ
-rows r = r .read-file .last .1 .1 .0
+rows r = r .read-file .last .1 .1 .1 .0
 
 abbrev scores : tie.After-read-file → List ℕ
 scores r = r .read-file .last .1 .0
 
+abbrev weights : tie.After-read-file → List ℕ
+weights r = r .read-file .last .1 .1 .0
+
 rows-long : (r : tie.After-read-file) → length (rows r) ≡ mostRows
-rows-long r = r .read-file .kept .1 .1 .0 ∙ rows-blank (at-empty r)
+rows-long r = r .read-file .kept .1 .1 .1 .0 ∙ rows-blank (at-empty r)
 
 scores-wide : (r : tie.After-read-file) → length (scores r) ≡ mostSites
 scores-wide r = r .read-file .kept .1 .0 ∙ scores-blank (at-empty r)
 
+weights-many : (r : tie.After-read-file) → length (weights r) ≡ mostStreets
+weights-many r = r .read-file .kept .1 .1 .0 ∙ weights-blank (at-empty r)
+
 -- ---- once the answer is a survey: it is in the fronts of the buffers
 abbrev reading : tie.After-answer → tie.After-read-file
-reading s = s .before .before .before .before
+reading s = s .before .before .before .before .before
 
 -- n, m, k and the kind
 abbrev sizes : tie.After-answer → ℕ × ℕ × ℕ × ℕ
 sizes s = let g = s .answer .given .0 in (g .0, g .1 .0, g .1 .1 .0, g .1 .1 .1 .0)
 
 survey : (s : tie.After-answer) → let (n, m, k, kind) = sizes s in
-    SurveyRead (entry (reading s) .args .file .now) (rows (reading s)) (scores (reading s)) n m k kind
+    SurveyRead (entry (reading s) .args .file .now) (rows (reading s)) (scores (reading s)) (weights (reading s)) n m k kind
 survey s =
     let e = at-empty (reading s) in
-    survey-read (reading s .read-file .ensures) (rows-blank e) (scores-blank e) (s .answer .given .1)
+    survey-read (reading s .read-file .ensures) (rows-blank e) (scores-blank e) (weights-blank e) (s .answer .given .1)
 
 -- ---- once it is a refusal: its line is what is printed
 abbrev refused-reading : tie.After-answer2 → tie.After-read-file
-refused-reading x = x .before .before .before .before
+refused-reading x = x .before .before .before .before .before
 
 refused : (x : tie.After-answer2) → refusedLine (x .answer2 .given .0 .0) ≡ printed (entry (refused-reading x) .args .file .now)
 refused x =
     let e = at-empty (refused-reading x) in
-    refused-printed (refused-reading x .read-file .ensures) (rows-blank e) (scores-blank e) (x .answer2 .given .1)
+    refused-printed (refused-reading x .read-file .ensures) (rows-blank e) (scores-blank e) (weights-blank e) (x .answer2 .given .1)
 
 print-held-requires : tie.Need-print-held-requires
 print-held-requires c κs =
-    let s = c .before .before in
-    (record { asked = survey s .asked; scores-long = scores-wide (reading s); rows-long = rows-long (reading s) }, entry (reading s) .pre)
+    let s = c .before .before in (
+      record {
+        asked = survey s .asked;
+        scores-long = scores-wide (reading s);
+        weights-long = weights-many (reading s);
+        rows-long = rows-long (reading s);
+      },
+      entry (reading s) .pre,
+    )
 
 write-line-requires : tie.Need-write-line-requires
 write-line-requires c κs =
@@ -85,6 +101,7 @@ print-spec =
     tie.close
     (tie.spec
     (λ c κs. search needs)
+    (λ c. search needs)
     (λ c. search needs)
     (λ c. search needs)
     (λ c κs. search needs)

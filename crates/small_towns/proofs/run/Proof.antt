@@ -7,7 +7,7 @@ use Rattle.small_towns.proofs.run.Tie as tie
 
 abbrev Inv-loop : tie.InvT-loop
 Inv-loop numbers₀ kinds₀ seed₀ counts₀ i₀ numbers kinds seed counts i =
-    (i ≤ 3000) × Counted (counts .sizes) × (counts .sizes .choices ≤ 5 * i) × (counts .compared ≤ 590 * i) × (counts .differences ≤ 590 * i)
+    (i ≤ 3000) × Counted (counts .sizes) × (counts .sizes .choices ≤ 5 * i) × (counts .compared ≤ 560 * i) × (counts .differences ≤ 560 * i)
 
 abbrev μ-loop : tie.MeasureT-loop
 μ-loop numbers₀ kinds₀ seed₀ counts₀ i₀ numbers kinds seed counts i = 3000 - i

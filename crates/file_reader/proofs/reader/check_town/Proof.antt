@@ -119,71 +119,73 @@ module _ {M : Type 1} (𝓤 : URA M) (H : Heap 𝓤) (A : Atoms 𝓤) (W : Given
     walk wt held =
         qed W (Token κ q ∷ ‵ (owns (B (κ, tt) ∷ []) (d, tt) (mach ∷ [], tt)) ∷ []) ∵ enter ! C Λ code.function (mach ∷ []) _ $
         alloc1 ! (λ l₀. alloc1 ! (λ l₁. alloc1 ! (λ l₂. alloc1 ! (λ l₃. alloc1 ! (λ l₄. alloc1 ! (λ l₅. alloc1 ! (λ l₆. alloc1 ! (λ l₇. alloc1 ! (λ l₈.
-        alloc1 ! (λ l₉. alloc1 ! (λ l₁₀. alloc0 ! $ params1 ! $ pass1 ! (init ! 18 refl wt) $ pass0 ! $
-        assigns ! (of-opd ! (load ! (from ! (stop !)) (look ! 18 refl))) (from ! (stop !)) (init ! 6 refl (held .0)) $
+        alloc1 ! (λ l₉. alloc1 ! (λ l₁₀. alloc1 ! (λ l₁₁. alloc0 ! $ params1 ! $ pass1 ! (init ! 20 refl wt) $ pass0 ! $
+        assigns ! (of-opd ! (load ! (from ! (stop !)) (look ! 20 refl))) (from ! (stop !)) (init ! 6 refl (held .0)) $
         assigns ! (agg ! (and-then ! (lit ! tt) (no-more !))) (from ! (stop !))
         (init ! 4 refl (EL.lawful D.the-type D′.the-laws 𝓤 H A W tt .typed due.Town _ town-due .0)) $
-        -- [_10; …; _9; …; _8; …; _7; …; _6; …; _5; …; _4; …; _3; …; _2; …; _1; …; room for _0; …; the token; what r owns]
-        move ! (23 ∷ []) $ fsplit ! $ move ! (1 ∷ []) $ drop ! $ use1 W (‵ Own ⊛ ‵ Own) (reader-twice 𝓤 H A W κ d) $ split ! $ move ! (0 ∷ 24 ∷ []) $
+        -- [_11; …; _10; …; _9; …; _8; …; _7; …; _6; …; _5; …; _4; …; _3; …; _2; …; _1; …; room for _0; …; the token; what r owns]
+        move ! (25 ∷ []) $ fsplit ! $ move ! (1 ∷ []) $ drop ! $ use1 W (‵ Own ⊛ ‵ Own) (reader-twice 𝓤 H A W κ d) $ split ! $ move ! (0 ∷ 26 ∷ []) $
         calls-next mem run κ q ! fm known-next d due.Town mach town-due within
         (and-then ! (load ! (from ! (stop !)) (look ! 8 refl)) (and-then ! (load ! (from ! (stop !)) (look ! 6 refl)) (no-more !))) (λ is.
-        land ! (from ! (stop !)) (init ! 19 refl (EL.lawful S.the-type S′.the-laws 𝓤 H A W tt .typed town _ is .0)) $
-        -- [what the record owns; the token; what the reader owns; _10; …; the others, down to room for _0; …]
-        first-on ! (λ on. by-variants ! 19 (whole !) (load ! (from ! (vrt ! refl (fld ! refl (stop !)))) (look-tag ! 19 (whole !))) tt (
+        land ! (from ! (stop !)) (init ! 21 refl (EL.lawful S.the-type S′.the-laws 𝓤 H A W tt .typed town _ is .0)) $
+        -- [what the record owns; the token; what the reader owns; _11; …; the others, down to room for _0; …]
+        first-on ! (λ on. by-variants ! 21 (whole !) (load ! (from ! (vrt ! refl (fld ! refl (stop !)))) (look-tag ! 21 (whole !))) tt (
           -- a town: its fields go into locals, and the reader past it goes on
           (λ h.
-              let (n, m, k, kind, e) = as-town town h in
+              let (n, m, k, kind, newForm, e) = as-town town h in
               let fit : Fit n m k kind = town-fit town e is in
-              let goes = past-town (d .file .now) (d .count) within n m k kind (sym e) in
-              drop ! $ rewrite ! 18 (λ (z : Record). ‵ (fat fullShare RecordTy l₂ 0 (told z))) e refl $
-              -- [the token; what the reader owns; _10; …]
-              assigns ! (of-opd ! (load ! (from ! (vrt ! refl (fld ! refl (stop !)))) (look-in ! 18 (in-variant ! 0 0 refl refl (whole !)))))
-              (from ! (stop !)) (init ! 16 refl (tt, record { fits = fit .streets })) $
-              assigns ! (of-opd ! (load ! (from ! (vrt ! refl (fld ! refl (stop !)))) (look-in ! 18 (in-variant ! 0 1 refl refl (whole !)))))
-              (from ! (stop !)) (init ! 14 refl (tt, record { fits = fit .sites })) $
-              assigns ! (of-opd ! (load ! (from ! (vrt ! refl (fld ! refl (stop !)))) (look-in ! 18 (in-variant ! 0 2 refl refl (whole !)))))
-              (from ! (stop !)) (init ! 12 refl (tt, record { fits = fit .chosen })) $
-              assigns-last ! (of-opd ! (load ! (from ! (vrt ! refl (fld ! refl (stop !)))) (look-in ! 18 (in-variant ! 0 3 refl refl (whole !)))))
-              (from ! (stop !)) (init ! 10 refl (tt, record { fits = fit .of-kind })) $ on _ (
-              assigns ! (of-opd ! (load ! (from ! (stop !)) (look ! 20 refl))) (from ! (stop !)) (init ! 2 refl (held .0)) $
+              let goes = past-town (d .file .now) (d .count) within n m k kind newForm (sym e) in
+              drop ! $ rewrite ! 20 (λ (z : Record). ‵ (fat fullShare RecordTy l₂ 0 (told z))) e refl $
+              -- [the token; what the reader owns; _11; …]
+              assigns ! (of-opd ! (load ! (from ! (vrt ! refl (fld ! refl (stop !)))) (look-in ! 20 (in-variant ! 0 0 refl refl (whole !)))))
+              (from ! (stop !)) (init ! 18 refl (tt, record { fits = fit .streets })) $
+              assigns ! (of-opd ! (load ! (from ! (vrt ! refl (fld ! refl (stop !)))) (look-in ! 20 (in-variant ! 0 1 refl refl (whole !)))))
+              (from ! (stop !)) (init ! 16 refl (tt, record { fits = fit .sites })) $
+              assigns ! (of-opd ! (load ! (from ! (vrt ! refl (fld ! refl (stop !)))) (look-in ! 20 (in-variant ! 0 2 refl refl (whole !)))))
+              (from ! (stop !)) (init ! 14 refl (tt, record { fits = fit .chosen })) $
+              assigns ! (of-opd ! (load ! (from ! (vrt ! refl (fld ! refl (stop !)))) (look-in ! 20 (in-variant ! 0 3 refl refl (whole !)))))
+              (from ! (stop !)) (init ! 12 refl (tt, record { fits = fit .of-kind })) $
+              assigns-last ! (of-opd ! (load ! (from ! (vrt ! refl (fld ! refl (stop !)))) (look-in ! 20 (in-variant ! 0 4 refl refl (whole !)))))
+              (from ! (stop !)) (init ! 10 refl (tt, tt)) $ on _ (
+              assigns ! (of-opd ! (load ! (from ! (stop !)) (look ! 22 refl))) (from ! (stop !)) (init ! 2 refl (held .0)) $
               move ! (1 ∷ []) $ use1 W (‵ Own ⊛ ‵ Own) (reader-twice 𝓤 H A W κ d) $ split ! $ move ! (0 ∷ 2 ∷ []) $
-              -- [what a copy owns; the token; what the reader owns; _10; …]
+              -- [what a copy owns; the token; what the reader owns; _11; …]
               calls-past mem run κ q ! fm known-past d mach
               (and-then ! (load ! (from ! (stop !)) (look ! 2 refl)) (and-then ! (lit ! tt) (no-more !)))
               (lit< tt) (omega (arith, goes .0))
               (λ r′ is-past u held-past. land ! (from ! (stop !)) (init ! 5 refl (held-past .0)) $
-              calls-scores mem run κ q ! fm known-scores r′ n m k kind u fit
+              calls-scores mem run κ q ! fm known-scores r′ n m k kind newForm u fit
               (along (λ (z : Reader). z .count ≤ length (z .file .now)) is-past (omega (arith, goes .0)))
-              (and-then ! (load ! (from ! (stop !)) (look ! 4 refl)) (and-then ! (load ! (from ! (stop !)) (look ! 16 refl))
-              (and-then ! (load ! (from ! (stop !)) (look ! 14 refl)) (and-then ! (load ! (from ! (stop !)) (look ! 12 refl))
-              (and-then ! (load ! (from ! (stop !)) (look ! 10 refl)) (no-more !)))))) (λ u₁ is₁.
+              (and-then ! (load ! (from ! (stop !)) (look ! 4 refl)) (and-then ! (load ! (from ! (stop !)) (look ! 18 refl))
+              (and-then ! (load ! (from ! (stop !)) (look ! 16 refl)) (and-then ! (load ! (from ! (stop !)) (look ! 14 refl))
+              (and-then ! (load ! (from ! (stop !)) (look ! 12 refl)) (and-then ! (load ! (from ! (stop !)) (look ! 10 refl)) (no-more !))))))) (λ u₁ is₁.
               land ! (from ! (stop !))
-              (init ! 23 refl (EL.lawful Y.the-type Y′.the-laws 𝓤 H A W tt .typed (from-scores r′ n m k kind) _ is₁ .0)) $
-              -- [the result; the token; what the reader owns; _10; …; the others, down to _0; …]
-              returns ! (look ! 23 refl) $ forget ! 3 refl $ forget ! 5 refl $ forget ! 7 refl $ forget ! 9 refl $ forget ! 11 refl $
+              (init ! 25 refl (EL.lawful Y.the-type Y′.the-laws 𝓤 H A W tt .typed (from-scores r′ n m k kind newForm) _ is₁ .0)) $
+              -- [the result; the token; what the reader owns; _11; …; the others, down to _0; …]
+              returns ! (look ! 25 refl) $ forget ! 3 refl $ forget ! 5 refl $ forget ! 7 refl $ forget ! 9 refl $ forget ! 11 refl $
               forget ! 13 refl $ forget ! 15 refl $ forget ! 17 refl $ forget ! 19 refl $ forget ! 21 refl $ forget ! 23 refl $
-              move ! (23 ∷ 24 ∷ []) $ free1 ! $ move ! (21 ∷ 22 ∷ []) $ free1 ! $ move ! (19 ∷ 20 ∷ []) $ free1 ! $
+              forget ! 25 refl $ move ! (25 ∷ 26 ∷ []) $ free1 ! $ move ! (23 ∷ 24 ∷ []) $ free1 ! $ move ! (21 ∷ 22 ∷ []) $ free1 ! $ move ! (19 ∷ 20 ∷ []) $ free1 ! $
               move ! (17 ∷ 18 ∷ []) $ free1 ! $ move ! (15 ∷ 16 ∷ []) $ free1 ! $ move ! (13 ∷ 14 ∷ []) $ free1 ! $
               move ! (11 ∷ 12 ∷ []) $ free1 ! $ move ! (9 ∷ 10 ∷ []) $ free1 ! $
               move ! (7 ∷ 8 ∷ []) $ free1 ! $ move ! (5 ∷ 6 ∷ []) $ free1 ! $ move ! (3 ∷ 4 ∷ []) $ free1 ! $ free0 ! $
-              by ! (exits u₁ (from-scores r′ n m k kind) (ap (λ (z : Reader). from-scores z n m k kind) is-past ∙ goes .1)))))),
+              by ! (exits u₁ (from-scores r′ n m k kind newForm) (ap (λ (z : Reader). from-scores z n m k kind newForm) is-past ∙ goes .1)))))),
           -- any other record: its refusal is returned
           (
             (λ h.
-                calls-refused mem run κ q ! fm known-refused town (and-then ! (load ! (from ! (stop !)) (look ! 19 refl)) (no-more !)) (λ u is₁.
-                land ! (from ! (stop !)) (init ! 24 refl (EL.lawful Y.the-type Y′.the-laws 𝓤 H A W tt .typed (refusedBy town) _ is₁ .0)) $
-                -- [the result; nothing; the token; what the reader owns; room for _10 and _9; …; _8; …; _7; …; room for _6 to _3; …; _2; …; _1; …; _0; …]
-                returns-within ! Post refl (look ! 24 refl) $ forget ! 8 refl $ forget ! 10 refl $ forget ! 20 refl $ forget ! 22 refl $
-                forget ! 24 refl $
+                calls-refused mem run κ q ! fm known-refused town (and-then ! (load ! (from ! (stop !)) (look ! 21 refl)) (no-more !)) (λ u is₁.
+                land ! (from ! (stop !)) (init ! 26 refl (EL.lawful Y.the-type Y′.the-laws 𝓤 H A W tt .typed (refusedBy town) _ is₁ .0)) $
+                -- [the result; nothing; the token; what the reader owns; room for _11 and _10; …; _9; …; _8; …; room for _7 to _3; …; _2; …; _1; …; _0; …]
+                returns-within ! Post refl (look ! 26 refl) $ forget ! 8 refl $ forget ! 10 refl $ forget ! 22 refl $ forget ! 24 refl $
+                forget ! 26 refl $
                 move ! (1 ∷ []) $ drop ! $
-                move ! (23 ∷ 24 ∷ []) $ free1 ! $ move ! (21 ∷ 22 ∷ []) $ free1 ! $ move ! (19 ∷ 20 ∷ []) $ free1 ! $
+                move ! (25 ∷ 26 ∷ []) $ free1 ! $ move ! (23 ∷ 24 ∷ []) $ free1 ! $ move ! (21 ∷ 22 ∷ []) $ free1 ! $ move ! (19 ∷ 20 ∷ []) $ free1 ! $
                 move ! (17 ∷ 18 ∷ []) $ free1 ! $ move ! (15 ∷ 16 ∷ []) $ free1 ! $ move ! (13 ∷ 14 ∷ []) $ free1 ! $
                 move ! (11 ∷ 12 ∷ []) $ free1 ! $ move ! (9 ∷ 10 ∷ []) $ free1 ! $
                 move ! (7 ∷ 8 ∷ []) $ free1 ! $ move ! (5 ∷ 6 ∷ []) $ free1 ! $ move ! (3 ∷ 4 ∷ []) $ free1 ! $ free0 ! $
                 by ! (exits u _ (town-stops (from-on (d .count) (d .file .now)) town refl h)))),
             tt,
           ),
-        ))))))))))))))
+        )))))))))))))))
 
 module _ {M : Type 1} (𝓤 : URA M) (H : Heap 𝓤) (A : Atoms 𝓤) (W : Given 𝓤 H A) (mem : Memory → SProp 𝓤) (run : Routine → Fun 𝓤) where
   check-town-walks : (C : Calls 𝓤 H) (Λ : Loops 𝓤 H) → FmC 𝓤 H (W .laws) C → Triple 𝓤 (C #file-reader·reader·next) (Next 𝓤 H A mem run)

@@ -21,20 +21,20 @@ long i = town-long (rest i) _ (i .before .town-refusal .ensures) (i .if1 .left)
 word-at-requires : tie.Need-word-at-requires
 word-at-requires c κs = omega (arith, long c)
 
-shared-slice-read-t6 : tie.Need-shared-slice-read-t6
-shared-slice-read-t6 c = omega (arith, long (c .before .before))
+shared-slice-read-t7 : tie.Need-shared-slice-read-t7
+shared-slice-read-t7 c = omega (arith, long (c .before .before))
 
-shared-slice-read-t8 : tie.Need-shared-slice-read-t8
-shared-slice-read-t8 c = omega (arith, long (c .before .before .before))
+shared-slice-read-t9 : tie.Need-shared-slice-read-t9
+shared-slice-read-t9 c = omega (arith, long (c .before .before .before))
 
-shared-slice-read-t10 : tie.Need-shared-slice-read-t10
-shared-slice-read-t10 c = omega (arith, long (c .before .before .before .before))
+shared-slice-read-t11 : tie.Need-shared-slice-read-t11
+shared-slice-read-t11 c = omega (arith, long (c .before .before .before .before))
 
 returns-2 : tie.Need-returns-2
 returns-2 c =
     let i = c .before .before .before .before in
     let r = i .before .town-refusal in
-    town-given (rest i) (r .result) _ (r .ensures) (i .if1 .left) (c .before .before .before .word-at .ensures .0)
+    town-given (i .before .before .before .args .new-form) (rest i) (r .result) _ (r .ensures) (i .if1 .left) (c .before .before .before .word-at .ensures .0)
 
 pub town-in-spec : {M : Type 1} → statement M
 town-in-spec =
@@ -43,7 +43,7 @@ town-in-spec =
     (λ c κs. search needs)
     returns
     word-at-requires
-    shared-slice-read-t6
-    shared-slice-read-t8
-    shared-slice-read-t10
+    shared-slice-read-t7
+    shared-slice-read-t9
+    shared-slice-read-t11
     returns-2)

@@ -7,7 +7,7 @@ use Rattle.plain_files.proofs.writing.put_streets.Statement.{statement}
 use Rattle.plain_files.proofs.writing.put_streets.Tie as tie
 
 abbrev Inv-loop : tie.InvT-loop
-Inv-loop file₀ from town next₀ s₀ s-end file next s = (s ≤ s-end) × (s-end ≡ town .n) × (next ≤ 19 + 10 * s) × (length file ≡ length file₀)
+Inv-loop file₀ from town next₀ s₀ s-end file next s = (s ≤ s-end) × (s-end ≡ town .n) × (next ≤ 29 + 10 * s) × (length file ≡ length file₀)
 
 abbrev μ-loop : tie.MeasureT-loop
 μ-loop file₀ from town next₀ s₀ s-end file next s = s-end - s

@@ -9,7 +9,7 @@ use Rattle.small_towns.proofs.Counts.with_town.Tie as tie
 abbrev Inv-loop : tie.InvT-loop
 Inv-loop self₀ seed₀ numbers₀ kinds₀ town sites i₀ i-end self seed numbers kinds i =
     (i ≤ i-end) × (i-end ≡ town .m) × Counted (self .sizes) × (self .sizes .choices ≡ self₀ .sizes .choices + i)
-    × (self .compared ≤ self₀ .compared + 66 * i) × (self .differences ≤ self₀ .differences + 66 * i)
+    × (self .compared ≤ self₀ .compared + 60 * i) × (self .differences ≤ self₀ .differences + 60 * i)
 
 abbrev μ-loop : tie.MeasureT-loop
 μ-loop self₀ seed₀ numbers₀ kinds₀ town sites i₀ i-end self seed numbers kinds i = i-end - i
