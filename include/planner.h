@@ -13,7 +13,6 @@
  *            its weight. Every score, total, choice and division here is by counted scores. A caller without weights lends ones.
  *   rows     n rows of m bytes, street 1 first. A row holds site numbers (1 to m), best first, none twice, then zeros. A row
  *            of zeros is an empty list. A site that a street has not ranked scores 0 for it.
- *   A survey file has no weights, and the calls on files are given none.
  *   A site is one byte. Site 0 is no site: a street that goes to site 0 is unserved.
  *
  * SHARES. A balanced plan or division shares the n streets out over k sites, k at most n: n / k streets (rounded down) to each
@@ -27,11 +26,18 @@
  *   equal to its limit fits. An unserved street loads no site, but its numbers are tried like the others. A caller without loads
  *   lends zeros for the streets and PLANNER_MOST_LOAD for each site.
  *
- * PARAMETERS stand in one order everywhere: sizes (n, m, k, kind), scores, weights, rows, what the call is about, what it fills.
- * Only the reader, which fills all of them, has its file in front. Any numbers may be passed: what is wrong with them is refused.
+ * SURVEY FILES hold a survey with its k and its kind of plan, in one of two forms. A file of the old form opens with the mark TN
+ * and has no weights: each is 1. One of the new form opens with TW and has the weights in a record HW between the scores (SC) and
+ * the streets (ST); in all else the two are alike. The reader takes both and says which form it read. The writer and the converter
+ * are told which form to make: 0 is the old one, and any other number the new one. They refuse with 25 to make a file of the old
+ * form where some weight is not 1. A file that is read and written again in its form is the same file, and so is one that is
+ * converted and converted back.
+ *
+ * PARAMETERS stand in one order everywhere: sizes (n, m, k, kind), form, scores, weights, rows, what the call is about, what it
+ * fills. Only the reader and the converter have their file in front. Any numbers may be passed: what is wrong with them is refused.
  *
  * BUFFERS. Each is a pointer and, behind it, the number of its elements. Where that number is 0 the pointer may be null; else it
- * is aligned for its type. A buffer or number that a function writes overlaps nothing else that is lent to the same call. The four
+ * is aligned for its type. A buffer or number that a function writes overlaps nothing else that is lent to the same call. The five
  * numbers that the reader writes are never null.
  *
  * ANSWERS. Except for planner_ranked_part and planner_version, a function returns one 64-bit number: the total where the call is
@@ -40,8 +46,8 @@
  *
  * REFUSALS. A call tries those numbers that concern what it is given, in this order: 1 to 6, then 8 over the scores, 24 over the
  * weights, then the rows by street and byte, where a byte is tried for 9, 10, 11; then 21, 17, 20, 18, then site by site 22 before
- * 23, then 19, and 7 last. The reader's order stands there. Where a call is given a list of sites, 3 and 5 are about the list's
- * length.
+ * 23, then 19, then 25, and 7 last. The order of the reader and the converter stands there. Where a call is given a list of sites,
+ * 3 and 5 are about the list's length.
  *
  * A call uses no heap and keeps nothing from one call to the next: any number of threads may call at once. The stack that it needs
  * is named below, call by call.
@@ -57,7 +63,7 @@ extern "C" {
 #endif
 
 /* The year and the number of the last request that is in, 00 for the base. planner_version() gives that of the library linked. */
-#define PLANNER_VERSION 202605
+#define PLANNER_VERSION 202606
 
 /* The greatest sizes, score and weight, and the greatest load of a street, which is also the greatest limit of a site. */
 #define PLANNER_MAX_STREETS 400
@@ -68,12 +74,17 @@ extern "C" {
 
 /* The lengths of the buffers that hold every survey and every file, in elements; the reader's have exactly these. */
 #define PLANNER_SCORES_LENGTH 64
+#define PLANNER_WEIGHTS_LENGTH 400
 #define PLANNER_ROWS_LENGTH 25600
-#define PLANNER_FILE_LENGTH 27739
+#define PLANNER_FILE_LENGTH 28141
 
 /* The kinds of plan, for a call and in a survey file. */
 #define PLANNER_FREE 0
 #define PLANNER_BALANCED 1
+
+/* The forms of a survey file, as the reader gives them. */
+#define PLANNER_OLD_FORM 0
+#define PLANNER_NEW_FORM 1
 
 /*
  * The bytes of stack that each call needs below its caller's frame, whatever it is lent; planner_plan and planner_hand_plan have a
@@ -93,8 +104,9 @@ extern "C" {
 #define PLANNER_STACK_FLOOR 11264
 #define PLANNER_STACK_FREE_HAND_PLAN 5120
 #define PLANNER_STACK_BALANCED_HAND_PLAN 5120
-#define PLANNER_STACK_WRITE_FILE 3584
-#define PLANNER_STACK_READ_FILE 1024
+#define PLANNER_STACK_WRITE_FILE 3072
+#define PLANNER_STACK_READ_FILE 1536
+#define PLANNER_STACK_CONVERT_FILE 1024
 #define PLANNER_STACK_REFUSED 11264
 #define PLANNER_STACK_MOST PLANNER_STACK_BALANCED_PLAN
 
@@ -111,7 +123,7 @@ extern "C" {
     REFUSAL(5, SHARE, "K, or a list's length, above the number of streets (balanced plan, division, hand plan, floor): choose a smaller K, or a free plan") \
     /* the calling program */ \
     REFUSAL(6, BUFFER_LENGTH, "a lent buffer of other than its exact length: lend the length that the call names") \
-    REFUSAL(7, FILE_BUFFER_SHORT, "a file buffer shorter than the file: lend 27,739 bytes, the longest file") \
+    REFUSAL(7, FILE_BUFFER_SHORT, "a file buffer shorter than the file: lend 28,141 bytes, the longest file") \
     /* the survey team */ \
     REFUSAL(8, SCORE, "a score above 1,000 or above the one before: put the scores in falling order") \
     REFUSAL(9, SITE_AFTER_ZERO, "a site after a zero in a row: close the gap in the list") \
@@ -119,7 +131,7 @@ extern "C" {
     REFUSAL(11, SITE_TWICE, "a site twice in one list: strike one of the two") \
     /* the file sender */ \
     REFUSAL(12, FILE_ENDS, "the file ends early: send it again, whole") \
-    REFUSAL(13, MARK, "another mark than the one due: records come as TN, SC, ST .., EN") \
+    REFUSAL(13, MARK, "another mark than the one due: records come as TN, SC, ST .., EN or as TW, SC, HW, ST .., EN") \
     REFUSAL(14, STREET_NUMBER, "a street out of turn: number the streets from 1 in their order") \
     REFUSAL(15, LIST_LENGTH, "a list longer than the number of sites: correct its length") \
     REFUSAL(16, BYTES_AFTER_END, "bytes after EN: end the file there") \
@@ -135,7 +147,9 @@ extern "C" {
     REFUSAL(22, KILOGRAMS, "a site with more kilograms than its limit: move streets") \
     REFUSAL(23, LITRES, "a site with more litres than its limit: move streets") \
     /* the survey team */ \
-    REFUSAL(24, WEIGHT, "a household weight outside 1 to 99: correct the weight")
+    REFUSAL(24, WEIGHT, "a household weight outside 1 to 99: correct the weight") \
+    /* the calling program */ \
+    REFUSAL(25, LOST_WEIGHT, "a weight other than 1, which a file of the old form would lose: make one of the new form")
 
 /* PLANNER_REFUSED_STREETS is 1, and so on. */
 enum planner_refusal_number {
@@ -145,7 +159,7 @@ enum planner_refusal_number {
 #undef PLANNER_NUMBERED
 };
 
-/* The refusal's number, 1 to 24; 0 where the call is accepted. */
+/* The refusal's number, 1 to 25; 0 where the call is accepted. */
 static inline uint32_t planner_refusal(uint64_t answer) {
     uint64_t upper = answer >> 32;
     return upper & 0xffffffffu;
@@ -323,29 +337,48 @@ uint64_t planner_hand_plan(size_t n, size_t m, size_t k, size_t kind,
 /*
  * Writes a survey file.
  *   kind    PLANNER_FREE or PLANNER_BALANCED
- *   scores  m numbers, read      rows  n * m bytes, read
+ *   form    PLANNER_OLD_FORM, or any other number for the new form
+ *   scores  m numbers, read      weights  n bytes, read      rows  n * m bytes, read
  *   file    any number of bytes, written as far as the file goes; PLANNER_FILE_LENGTH bytes are enough for every survey
- * Answer: the file's length. Refuses with 1, 2, 3, 4, 6, 8, 9, 10, 11, and with 7 last.
+ * Answer: the file's length. Refuses with 1, 2, 3, 4, 6, 8, 24, 9, 10, 11, then in the old form with 25, and with 7 last.
  */
-uint64_t planner_write_file(size_t n, size_t m, size_t k, size_t kind,
+uint64_t planner_write_file(size_t n, size_t m, size_t k, size_t kind, size_t form,
                             const uint16_t *scores, size_t scores_len,
+                            const uint8_t *weights, size_t weights_len,
                             const uint8_t *rows, size_t rows_len,
                             uint8_t *PLANNER_RESTRICT file, size_t file_len) PLANNER_MUST_USE;
 
 /*
- * Reads a survey file.
- *   file    any number of bytes, read
+ * Reads a survey file of either form.
+ *   file     any number of bytes, read
  *   n, m, k, kind  one number each, written: what the file says
- *   scores  exactly PLANNER_SCORES_LENGTH numbers: the first m are written
- *   rows    exactly PLANNER_ROWS_LENGTH bytes: the first n * m are written
+ *   form     one number, written: PLANNER_OLD_FORM or PLANNER_NEW_FORM
+ *   scores   exactly PLANNER_SCORES_LENGTH numbers: the first m are written
+ *   weights  exactly PLANNER_WEIGHTS_LENGTH bytes: the first n are written, with 1 for each street of a file of the old form
+ *   rows     exactly PLANNER_ROWS_LENGTH bytes: the first n * m are written
  * Answer: total 0. Tries 6, then for each record: mark bytes there (12), mark (13), fixed part there (12), fields in order of
- * number (1, 2, 3, 4; 8; 14, 15), list there (12), each list byte for 10, then 11. After EN it tries 16.
+ * number (1, 2, 3, 4; 8; 24; 14, 15), list there (12), each list byte for 10, then 11. The fixed part of SC is all its scores, that
+ * of HW all its weights. After EN it tries 16.
  */
 uint64_t planner_read_file(const uint8_t *file, size_t file_len,
                            size_t *PLANNER_RESTRICT n, size_t *PLANNER_RESTRICT m,
                            size_t *PLANNER_RESTRICT k, size_t *PLANNER_RESTRICT kind,
+                           size_t *PLANNER_RESTRICT form,
                            uint16_t *PLANNER_RESTRICT scores, size_t scores_len,
-                           uint8_t *PLANNER_RESTRICT rows, size_t rows_len) PLANNER_MUST_USE PLANNER_NONNULL(3, 4, 5, 6);
+                           uint8_t *PLANNER_RESTRICT weights, size_t weights_len,
+                           uint8_t *PLANNER_RESTRICT rows, size_t rows_len) PLANNER_MUST_USE PLANNER_NONNULL(3, 4, 5, 6, 7);
+
+/*
+ * Converts a survey file into a form. A file that has this form already comes out as it is.
+ *   file    any number of bytes, read
+ *   form    PLANNER_OLD_FORM, or any other number for the new form
+ *   buffer  any number of bytes, written as far as the file in this form goes; PLANNER_FILE_LENGTH bytes are enough for every file
+ * Answer: the length of the file in this form. Tries the file as planner_read_file does behind 6, then for the old form 25, and 7
+ * last.
+ */
+uint64_t planner_convert_file(const uint8_t *file, size_t file_len,
+                              size_t form,
+                              uint8_t *PLANNER_RESTRICT buffer, size_t buffer_len) PLANNER_MUST_USE;
 
 #ifdef __cplusplus
 }

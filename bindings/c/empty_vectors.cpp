@@ -59,14 +59,23 @@ static void numbers() {
 }
 
 static void files() {
-    Bytes file, read_rows(PLANNER_ROWS_LENGTH);
+    Bytes file, read_weights(PLANNER_WEIGHTS_LENGTH), read_rows(PLANNER_ROWS_LENGTH), longer(PLANNER_FILE_LENGTH);
     Scores read_scores(PLANNER_SCORES_LENGTH);
-    std::size_t n, m, k, kind;
-    uint64_t answer = planner_read_file(file.data(), file.size(), &n, &m, &k, &kind, read_scores.data(), read_scores.size(),
-                                        read_rows.data(), read_rows.size());
+    std::size_t n, m, k, kind, form;
+    uint64_t answer = planner_read_file(file.data(), file.size(), &n, &m, &k, &kind, &form, read_scores.data(), read_scores.size(),
+                                        read_weights.data(), read_weights.size(), read_rows.data(), read_rows.size());
     expect(planner_refusal(answer) == PLANNER_REFUSED_FILE_ENDS, "an empty file");
-    answer = planner_write_file(1, 1, 1, PLANNER_FREE, scores.data(), scores.size(), rows.data(), rows.size(), file.data(), file.size());
+    answer = planner_convert_file(file.data(), file.size(), PLANNER_NEW_FORM, longer.data(), longer.size());
+    expect(planner_refusal(answer) == PLANNER_REFUSED_FILE_ENDS, "an empty file, converted");
+    answer = planner_write_file(1, 1, 1, PLANNER_FREE, PLANNER_OLD_FORM, scores.data(), scores.size(), weights.data(), weights.size(),
+                                rows.data(), rows.size(), file.data(), file.size());
     expect(planner_refusal(answer) == PLANNER_REFUSED_FILE_BUFFER_SHORT, "a file into an empty buffer");
+    answer = planner_write_file(1, 1, 1, PLANNER_FREE, PLANNER_NEW_FORM, scores.data(), scores.size(), weights.data(), weights.size(),
+                                rows.data(), rows.size(), longer.data(), longer.size());
+    expect(planner_refusal(answer) == PLANNER_ACCEPTED && planner_total(answer) == 22, "a file into a longer buffer");
+    longer.resize(planner_total(answer));
+    answer = planner_convert_file(longer.data(), longer.size(), PLANNER_OLD_FORM, file.data(), file.size());
+    expect(planner_refusal(answer) == PLANNER_REFUSED_FILE_BUFFER_SHORT, "a file converted into an empty buffer");
 }
 
 int main() {

@@ -12,11 +12,11 @@
 
 #include "planner.h"
 
-/* The town: its sizes and the kind of its plan, the score of each place, and for each street a weight and a row of sites. A survey
- * file has no weights: every street counts once. */
-static size_t n, m, k, kind;
+/* The town: its sizes, the kind of its plan and the form of its file, the score of each place, and for each street a weight and a row
+ * of sites. */
+static size_t n, m, k, kind, form;
 static uint16_t scores[PLANNER_SCORES_LENGTH];
-static uint8_t weights[PLANNER_MAX_STREETS], rows[PLANNER_ROWS_LENGTH];
+static uint8_t weights[PLANNER_WEIGHTS_LENGTH], rows[PLANNER_ROWS_LENGTH];
 
 /* Its plan: the site of each street, and the chosen sites in order of choice. */
 static uint8_t division[PLANNER_MAX_STREETS], chosen[PLANNER_MAX_SITES];
@@ -69,9 +69,9 @@ int main(int argc, char **argv) {
     }
     fclose(survey);
 
-    uint64_t answer = planner_read_file(file, length, &n, &m, &k, &kind, scores, PLANNER_SCORES_LENGTH, rows, PLANNER_ROWS_LENGTH);
+    uint64_t answer = planner_read_file(file, length, &n, &m, &k, &kind, &form, scores, PLANNER_SCORES_LENGTH,
+                                        weights, PLANNER_WEIGHTS_LENGTH, rows, PLANNER_ROWS_LENGTH);
     if (planner_refusal(answer) == PLANNER_ACCEPTED) {
-        memset(weights, 1, n);
         answer = planner_plan(n, m, k, kind, scores, m, weights, n, rows, n * m, division, n, chosen, k);
     }
     int status = 0;

@@ -7,7 +7,7 @@
 #include "planner.h"
 
 /* What the calls are lent, with one element of room behind each buffer. All of it is static: a runner's own frame stays small. */
-static size_t n, m, k, kind;
+static size_t n, m, k, kind, form, wanted;
 static uint16_t scores[PLANNER_SCORES_LENGTH + 1];
 static uint8_t weights[PLANNER_MAX_STREETS + 1], weight, rows[PLANNER_ROWS_LENGTH + 1], row[PLANNER_MAX_SITES + 1];
 static uint8_t sites[PLANNER_MAX_SITES + 1], site;
@@ -17,13 +17,13 @@ static uint32_t kilograms[PLANNER_MAX_STREETS + 1], litres[PLANNER_MAX_STREETS +
 static uint32_t kilogram_limits[PLANNER_MAX_SITES + 1], litre_limits[PLANNER_MAX_SITES + 1];
 static uint8_t division[PLANNER_MAX_STREETS + 1], chosen[PLANNER_MAX_SITES + 1];
 static uint8_t file[PLANNER_FILE_LENGTH + 1], written[PLANNER_FILE_LENGTH];
-static size_t scores_len, weights_len, rows_len, row_len, sites_len, division_len, chosen_len, file_len, written_len;
+static size_t scores_len, weights_len, rows_len, row_len, sites_len, division_len, chosen_len, file_len, written_len, converted_len;
 static size_t kilograms_len, litres_len, kilogram_limits_len, litre_limits_len;
 
 /* What the reader fills. */
-static size_t read_n, read_m, read_k, read_kind, read_scores_len, read_rows_len;
+static size_t read_n, read_m, read_k, read_kind, read_form, read_scores_len, read_weights_len, read_rows_len;
 static uint16_t read_scores[PLANNER_SCORES_LENGTH];
-static uint8_t read_rows[PLANNER_ROWS_LENGTH];
+static uint8_t read_weights[PLANNER_WEIGHTS_LENGTH], read_rows[PLANNER_ROWS_LENGTH];
 
 /* The answer of the last call. */
 static uint64_t answer;
@@ -66,11 +66,16 @@ static void run_hand_plan(void) {
 }
 
 static void run_write_file(void) {
-    answer = planner_write_file(n, m, k, kind, scores, scores_len, rows, rows_len, written, written_len);
+    answer = planner_write_file(n, m, k, kind, form, scores, scores_len, weights, weights_len, rows, rows_len, written, written_len);
 }
 
 static void run_read_file(void) {
-    answer = planner_read_file(file, file_len, &read_n, &read_m, &read_k, &read_kind, read_scores, read_scores_len, read_rows, read_rows_len);
+    answer = planner_read_file(file, file_len, &read_n, &read_m, &read_k, &read_kind, &read_form, read_scores, read_scores_len,
+                               read_weights, read_weights_len, read_rows, read_rows_len);
+}
+
+static void run_convert_file(void) {
+    answer = planner_convert_file(file, file_len, wanted, written, converted_len);
 }
 
 /* A set of refusals, by their numbers, and four members more for the buffers of some calls. */
@@ -80,13 +85,14 @@ static void run_read_file(void) {
 #define LENT_DIVISION NUMBER(62)
 #define LENT_CHOSEN NUMBER(63)
 #define ROW (NUMBER(2) | NUMBER(6) | NUMBER(8) | NUMBER(9) | NUMBER(10) | NUMBER(11))
-#define PLAIN (ROW | NUMBER(1) | NUMBER(3))
-#define SURVEY (PLAIN | LENT_WEIGHTS | NUMBER(24))
+#define SURVEY (ROW | NUMBER(1) | NUMBER(3) | LENT_WEIGHTS | NUMBER(24))
 #define LIST (SURVEY | NUMBER(17) | NUMBER(20))
 #define PLAN (SURVEY | NUMBER(4) | LENT_DIVISION | LENT_CHOSEN)
 #define LOADS (LENT_LOADS | NUMBER(21) | NUMBER(22) | NUMBER(23))
 #define HAND (SURVEY | NUMBER(4) | LENT_DIVISION | LOADS | NUMBER(17) | NUMBER(18) | NUMBER(19))
-#define FILE_RECORDS (NUMBER(12) | NUMBER(13) | NUMBER(14) | NUMBER(15) | NUMBER(16))
+#define WRITTEN (NUMBER(25) | NUMBER(7))
+#define RECORDS (NUMBER(12) | NUMBER(13) | NUMBER(14) | NUMBER(15) | NUMBER(16))
+#define READ ((SURVEY | NUMBER(4) | RECORDS) & ~NUMBER(9))
 
 static const struct call {
     const char *name;
@@ -105,8 +111,9 @@ static const struct call {
     {"FLOOR", run_floor, PLANNER_STACK_FLOOR, SURVEY | NUMBER(5)},
     {"FREE_HAND_PLAN", run_hand_plan, PLANNER_STACK_FREE_HAND_PLAN, HAND},
     {"BALANCED_HAND_PLAN", run_hand_plan, PLANNER_STACK_BALANCED_HAND_PLAN, HAND | NUMBER(5)},
-    {"WRITE_FILE", run_write_file, PLANNER_STACK_WRITE_FILE, PLAIN | NUMBER(4) | NUMBER(7)},
-    {"READ_FILE", run_read_file, PLANNER_STACK_READ_FILE, (PLAIN | NUMBER(4) | FILE_RECORDS) & ~NUMBER(9)},
+    {"WRITE_FILE", run_write_file, PLANNER_STACK_WRITE_FILE, SURVEY | NUMBER(4) | WRITTEN},
+    {"READ_FILE", run_read_file, PLANNER_STACK_READ_FILE, READ},
+    {"CONVERT_FILE", run_convert_file, PLANNER_STACK_CONVERT_FILE, (READ | WRITTEN) & ~(NUMBER(6) | LENT_WEIGHTS)},
 };
 enum { CALLS = sizeof calls / sizeof calls[0] };
 
@@ -129,7 +136,7 @@ static uint8_t listed(enum lists lists, size_t street, size_t place) {
 static void set_lengths(void) {
     scores_len = m, weights_len = n, rows_len = n * m, row_len = m, sites_len = k, division_len = n, chosen_len = k;
     kilograms_len = litres_len = n, kilogram_limits_len = litre_limits_len = m;
-    read_scores_len = PLANNER_SCORES_LENGTH, read_rows_len = PLANNER_ROWS_LENGTH;
+    read_scores_len = PLANNER_SCORES_LENGTH, read_weights_len = PLANNER_WEIGHTS_LENGTH, read_rows_len = PLANNER_ROWS_LENGTH;
 }
 
 /* Gives the streets of the hand plan loads, and each site the limits that these just reach. */
@@ -142,6 +149,16 @@ static void make_loads(void) {
         kilogram_limits[hand[street] - 1] += kilograms[street];
         litre_limits[hand[street] - 1] += litres[street];
     }
+}
+
+/* Makes the survey file, in the new form, or in the old one where all weights are 1 and K is even. It is wanted in the new form, or,
+ * where all weights are 1, in the one that it does not have. */
+static void make_file(size_t top) {
+    form = top == 1 && k % 2 == 0 ? PLANNER_OLD_FORM : PLANNER_NEW_FORM;
+    wanted = top == 1 && form == PLANNER_NEW_FORM ? PLANNER_OLD_FORM : PLANNER_NEW_FORM;
+    file_len = planner_total(planner_write_file(n, m, k, kind, form, scores, m, weights, n, rows, n * m, file, PLANNER_FILE_LENGTH));
+    written_len = file_len;
+    converted_len = planner_total(planner_convert_file(file, file_len, wanted, written, PLANNER_FILE_LENGTH));
 }
 
 /* Makes a town and what goes with it: a kind, a list of sites, a hand plan with its total and loads, and the survey file. The
@@ -169,8 +186,7 @@ static void make_town(size_t streets, size_t all, size_t choose, size_t of_kind,
         sites[i] = (uint8_t)(i + 1);
     }
     site = sites[k - 1];
-    file_len = planner_total(planner_write_file(n, m, k, kind, scores, m, rows, n * m, file, PLANNER_FILE_LENGTH));
-    written_len = file_len;
+    make_file(top);
 }
 
 /* The first town is the one that the faults are put into. With weights that are all 1 the rounds sort by smaller keys. */

@@ -3,9 +3,9 @@
  * Each is put into all that the calls are lent, the survey file too, so that every call that can meet it refuses alike.
  */
 
-/* Where things stand in that file: the fields of TN, the scores, and in the last street's record its number, its list's length and
- * the last site listed. */
-enum { STREETS_AT = 2, SITES_AT = 4, CHOOSE_AT = 5, KIND_AT = 6, SCORES_AT = 9, FIRST_LIST_AT = 144 };
+/* Where things stand in that file, which has the new form: the fields of TW, the scores, the weights, the first list, and in the last
+ * street's record its number, its list's length and the last site listed. */
+enum { STREETS_AT = 2, SITES_AT = 4, CHOOSE_AT = 5, KIND_AT = 6, SCORES_AT = 9, WEIGHTS_AT = 139, FIRST_LIST_AT = 544 };
 #define LAST_MARK_AT (file_len - 2)
 #define LAST_SITE_AT (LAST_MARK_AT - 1)
 #define LAST_LENGTH_AT (LAST_MARK_AT - 65)
@@ -50,7 +50,7 @@ static void scores_short(void) {
 }
 
 static void weights_short(void) {
-    weights_len--;
+    weights_len--, read_weights_len--;
 }
 
 static void rows_short(void) {
@@ -82,7 +82,7 @@ static void litre_limits_short(void) {
 }
 
 static void written_short(void) {
-    written_len--;
+    written_len--, converted_len--;
 }
 
 static void first_score_high(void) {
@@ -96,11 +96,20 @@ static void last_score_rises(void) {
 }
 
 static void first_weight_nothing(void) {
-    weights[0] = weight = 0;
+    weights[0] = weight = file[WEIGHTS_AT] = 0;
 }
 
 static void last_weight_high(void) {
-    weights[n - 1] = weight = PLANNER_TOP_WEIGHT + 1;
+    weights[n - 1] = weight = file[WEIGHTS_AT + n - 1] = PLANNER_TOP_WEIGHT + 1;
+}
+
+static void old_form(void) {
+    form = wanted = PLANNER_OLD_FORM;
+}
+
+static void last_weight_lost(void) {
+    memset(weights, 1, n - 1), memset(file + WEIGHTS_AT, 1, n - 1);
+    old_form();
 }
 
 static void gap_in_last_row(void) {
@@ -208,6 +217,8 @@ static const struct fault {
     {"last score above the one before", 8, NUMBER(8), last_score_rises},
     {"first weight 0", 24, NUMBER(24), first_weight_nothing},
     {"last weight above 99", 24, NUMBER(24), last_weight_high},
+    {"weights in the old form", 25, NUMBER(25), old_form},
+    {"last weight in the old form", 25, NUMBER(25), last_weight_lost},
     {"a zero before the last site of the last row", 9, NUMBER(9), gap_in_last_row},
     {"first site 65", 10, NUMBER(10), first_site_high},
     {"last site 65", 10, NUMBER(10), last_site_high},

@@ -1,17 +1,8 @@
-/* Every function of include/planner.h from C, on the worked surveys P1, P7 and P8; prints what differs and ends with 1, or ends with 0. */
-#include <stdio.h>
-#include <string.h>
-
-#include "planner.h"
-
-static int differences = 0;
-
-static void expect(int holds, const char *what) {
-    if (!holds) {
-        printf("differs: %s\n", what);
-        differences = 1;
-    }
-}
+/*
+ * Every function of include/planner.h from C, but for those on survey files (files.c), on the worked surveys P1, P7 and P8. Prints
+ * what differs and ends with 1, or ends with 0.
+ */
+#include "expect.h"
 
 /* The same for a call of this kind. */
 static void expect_of(size_t kind, int holds, const char *what) {
@@ -21,22 +12,9 @@ static void expect_of(size_t kind, int holds, const char *what) {
     }
 }
 
-static int refused(uint64_t answer, uint32_t number) {
-    return planner_refusal(answer) == number && planner_total(answer) == 0;
-}
-
-static void expect_refusal(uint64_t answer, uint32_t number, const char *what) {
-    expect(refused(answer, number), what);
-}
-
-/* n 4, m 3, K 2, lists 1 2 3 / 1 3 2 / 2 1 / 3 2 1. */
-static const uint16_t scores[3] = {2, 1, 0};
-static const uint8_t rows[12] = {1, 2, 3, 1, 3, 2, 2, 1, 0, 3, 2, 1};
+/* P1's plan. */
 static const uint8_t plan[4] = {1, 1, 2, 2};
 static const uint8_t sites[2] = {1, 2};
-
-/* The weights of streets that all count alike, and of a street 4 that counts for more. */
-static const uint8_t ones[4] = {1, 1, 1, 1}, heavy[4] = {1, 1, 1, 9};
 
 /* What stands for loads where there are none: the last arguments of a hand plan of this many streets over three sites. */
 static const uint32_t nothing[4] = {0}, most[3] = {PLANNER_MOST_LOAD, PLANNER_MOST_LOAD, PLANNER_MOST_LOAD};
@@ -160,7 +138,7 @@ static const uint8_t eights[4] = {8, 8, 8, 8};
 /* The first two streets of the survey, and three sites: the balanced calls and the floor refuse, and no other. */
 static void more_sites_than_streets(void) {
     static const uint8_t all[3] = {1, 2, 3}, hand[2] = {1, 3};
-    uint8_t division[2] = {8, 8}, chosen[3] = {8, 8, 8}, file[33];
+    uint8_t division[2] = {8, 8}, chosen[3] = {8, 8, 8};
     expect_refusal(planner_plan(2, 3, 3, PLANNER_BALANCED, scores, 3, ones, 2, rows, 6, division, 2, chosen, 3), 5,
                    "a balanced plan of two streets with K 3");
     expect_refusal(planner_plan(2, 3, 3, PLANNER_BALANCED, scores, 3, ones, 2, rows, 6, division, 1, chosen, 3), 5, "the same into one byte");
@@ -174,7 +152,6 @@ static void more_sites_than_streets(void) {
     expect(planner_plan(2, 3, 3, PLANNER_FREE, scores, 3, ones, 2, rows, 6, division, 2, chosen, 3) == 4, "the free plan of two streets with K 3");
     expect(planner_hand_plan(2, 3, 3, PLANNER_FREE, scores, 3, ones, 2, rows, 6, hand, 2, 3, NO_LOADS(2)) == 3,
            "a free hand plan of two streets with K 3");
-    expect(planner_write_file(2, 3, 3, PLANNER_BALANCED, scores, 3, rows, 6, file, 33) == 33, "the writing of two streets with K 3");
 }
 
 /* A plan of another kind: 3 is tried before 4, and 4 before 5 and 6. */
@@ -287,18 +264,6 @@ static void wrong_weights(void) {
     expect_everywhere(scores, ones, 4, outside, 10, "a site outside");
 }
 
-static void files(void) {
-    uint8_t file[PLANNER_FILE_LENGTH], read_rows[PLANNER_ROWS_LENGTH];
-    uint16_t read_scores[PLANNER_SCORES_LENGTH];
-    size_t n, m, k, kind;
-    uint64_t answer = planner_write_file(4, 3, 2, PLANNER_BALANCED, scores, 3, rows, 12, file, PLANNER_FILE_LENGTH);
-    expect(answer == 48, "the file's length");
-    answer = planner_read_file(file, 48, &n, &m, &k, &kind, read_scores, PLANNER_SCORES_LENGTH, read_rows, PLANNER_ROWS_LENGTH);
-    expect(answer == 0, "the reading");
-    expect(n == 4 && m == 3 && k == 2 && kind == PLANNER_BALANCED, "the sizes read");
-    expect(!memcmp(read_rows, rows, 12) && !memcmp(read_scores, scores, sizeof scores), "what was read");
-}
-
 /* A null pointer with length 0 for each buffer of the calls that only read. */
 static void null_read(void) {
     expect(planner_ranked_part(NULL, 0) == 0, "the ranked part of no bytes");
@@ -356,30 +321,13 @@ static void null_plans(size_t kind) {
     expect_of(kind, refused(planner_plan(4, 3, 2, kind, scores, 3, ones, 4, rows, 12, division, 4, NULL, 0), 6), "the plan without chosen sites");
 }
 
-static void null_files(void) {
-    uint8_t file[48], read_rows[PLANNER_ROWS_LENGTH];
-    uint16_t read_scores[PLANNER_SCORES_LENGTH];
-    size_t n = 1, m = 2, k = 3, kind = 4;
-    expect_refusal(planner_write_file(4, 3, 2, 0, NULL, 0, rows, 12, file, 48), 6, "the writing without scores");
-    expect_refusal(planner_write_file(4, 3, 2, 0, scores, 3, NULL, 0, file, 48), 6, "the writing without rows");
-    expect_refusal(planner_write_file(4, 3, 2, 0, scores, 3, rows, 12, NULL, 0), 7, "the writing into no bytes");
-    expect(planner_write_file(4, 3, 2, 0, scores, 3, rows, 12, file, 48) == 48, "the writing into just enough bytes");
-    uint64_t answer = planner_read_file(NULL, 0, &n, &m, &k, &kind, read_scores, PLANNER_SCORES_LENGTH, read_rows, PLANNER_ROWS_LENGTH);
-    expect_refusal(answer, 12, "the reading of no bytes");
-    answer = planner_read_file(file, 48, &n, &m, &k, &kind, NULL, 0, read_rows, PLANNER_ROWS_LENGTH);
-    expect_refusal(answer, 6, "the reading without scores");
-    answer = planner_read_file(file, 48, &n, &m, &k, &kind, read_scores, PLANNER_SCORES_LENGTH, NULL, 0);
-    expect_refusal(answer, 6, "the reading without rows");
-    expect(n == 1 && m == 2 && k == 3 && kind == 4, "the sizes after refused readings");
-}
-
 static void texts(void) {
     const char *none = "no refusal has this number";
     expect(!strcmp(planner_refusal_text(PLANNER_ACCEPTED), "accepted"), "the text of 0");
-    for (uint32_t number = 1; number <= 24; number++) {
+    for (uint32_t number = 1; number <= 25; number++) {
         expect(strcmp(planner_refusal_text(number), none), "a text for each number");
     }
-    expect(!strcmp(planner_refusal_text(25), none) && !strcmp(planner_refusal_text(UINT32_MAX), none), "the text of other numbers");
+    expect(!strcmp(planner_refusal_text(26), none) && !strcmp(planner_refusal_text(UINT32_MAX), none), "the text of other numbers");
     uint64_t answer = planner_floor(0, 3, 2, scores, 3, ones, 4, rows, 12);
     expect(!strcmp(planner_refusal_text(planner_refusal(answer)),
                    "number of streets outside 1 to 400: plan a larger town in parts"), "the text of 1");
@@ -403,10 +351,8 @@ int main(void) {
     weighted_plans();
     weighted_numbers();
     wrong_weights();
-    files();
     null_read();
     null_divisions();
-    null_files();
     texts();
     return differences;
 }

@@ -40,7 +40,8 @@
 //!   ([`Survey::plan`]), divides the streets over sites that are given ([`Survey::divide`]), totals a list of sites
 //!   ([`Survey::list_total`]), says what a balanced plan reaches in any case ([`Survey::floor`]) and tests a plan that was made by hand
 //!   ([`Survey::test`]), also with what the streets bring to their sites ([`Survey::test_with_loads`], [`Loads`]).
-//! - [`SurveyFile`] is a survey with the kind of plan and the K that are wanted, as bytes that are read and written.
+//! - [`SurveyFile`] is a survey with the kind of plan and the K that are wanted, as bytes that are read and written in one of two forms
+//!   ([`Form`]), and converted from one into the other ([`SurveyFile::convert`]).
 //! - [`Refusal`] is what is wrong with a call: its number, whose it is, and what to do.
 //! - [`slices`] are the library's functions over slices that the caller lends, and [`raw`] the same as C sees them.
 //!
@@ -69,7 +70,7 @@ pub use loads::Loads;
 pub use plan::{Division, Kind, Plan, Sites};
 pub use refusal::{Refusal, UnknownRefusal};
 pub use survey::Survey;
-pub use survey_file::SurveyFile;
+pub use survey_file::{Form, SurveyFile};
 
 /// The most streets that a survey has.
 pub const MAX_STREETS: usize = 400;
@@ -86,14 +87,17 @@ pub const TOP_WEIGHT: u8 = 99;
 /// The length of the scores that the reader of files is lent: those of the most sites.
 pub const SCORES_LENGTH: usize = MAX_SITES;
 
+/// The length of the weights that the reader of files is lent: those of the most streets.
+pub const WEIGHTS_LENGTH: usize = MAX_STREETS;
+
 /// The length of the rows that the reader of files is lent, in bytes: those of the most streets over the most sites.
 pub const ROWS_LENGTH: usize = MAX_STREETS * MAX_SITES;
 
 /// The length of the longest survey file, in bytes.
-pub const FILE_LENGTH: usize = 27_739;
+pub const FILE_LENGTH: usize = 28_141;
 
 /// The crate's version: the year, and in two digits the number of the last change request that is in.
-pub const VERSION: u32 = 202_605;
+pub const VERSION: u32 = 202_606;
 
 /// The version of the archive that is linked, which counts as [`VERSION`] does.
 ///

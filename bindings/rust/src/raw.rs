@@ -6,7 +6,7 @@
 //! # Safety
 //! A buffer is a pointer and, behind it, the number of its elements. That many elements have to be there for the call, aligned for their
 //! type. A buffer or number that a function writes (`*mut`) overlaps nothing else that is lent to the same call. With length 0 the pointer
-//! may be null. The four numbers that the reader fills are never null. Whatever the numbers and elements are, a function stays inside what
+//! may be null. The five numbers that the reader fills are never null. Whatever the numbers and elements are, a function stays inside what
 //! it is lent, and what is wrong with them is refused.
 
 unsafe extern "C" {
@@ -134,21 +134,25 @@ unsafe extern "C" {
         litre_limits_len: usize,
     ) -> u64;
 
-    /// Writes a survey file into the front of `file`; the file's length as the total.
+    /// Writes a survey file into the front of `file`, in the old form where `form` is 0 and else in the new one; the file's length as the
+    /// total.
     pub fn planner_write_file(
         n: usize,
         m: usize,
         k: usize,
         kind: usize,
+        form: usize,
         scores: *const u16,
         scores_len: usize,
+        weights: *const u8,
+        weights_len: usize,
         rows: *const u8,
         rows_len: usize,
         file: *mut u8,
         file_len: usize,
     ) -> u64;
 
-    /// Reads a survey file into the four numbers, the front of `scores` and the front of `rows`; total 0.
+    /// Reads a survey file into the five numbers, of which the form is 0 or 1, and the fronts of `scores`, `weights` and `rows`; total 0.
     pub fn planner_read_file(
         file: *const u8,
         file_len: usize,
@@ -156,9 +160,16 @@ unsafe extern "C" {
         m: *mut usize,
         k: *mut usize,
         kind: *mut usize,
+        form: *mut usize,
         scores: *mut u16,
         scores_len: usize,
+        weights: *mut u8,
+        weights_len: usize,
         rows: *mut u8,
         rows_len: usize,
     ) -> u64;
+
+    /// Converts a survey file into the front of `buffer`, into the old form where `form` is 0 and else into the new one; its length there as
+    /// the total.
+    pub fn planner_convert_file(file: *const u8, file_len: usize, form: usize, buffer: *mut u8, buffer_len: usize) -> u64;
 }

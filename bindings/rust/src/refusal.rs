@@ -68,13 +68,13 @@ refusals! {
     5 Share: "K, or a list's length, above the number of streets (balanced plan, division, hand plan, floor)", "planning office",
         "choose a smaller K, or a free plan";
     6 BufferLength: "a lent buffer of other than its exact length", "calling program", "lend the length that the call names";
-    7 FileBufferShort: "a file buffer shorter than the file", "calling program", "lend 27,739 bytes, the longest file";
+    7 FileBufferShort: "a file buffer shorter than the file", "calling program", "lend 28,141 bytes, the longest file";
     8 Score: "a score above 1,000 or above the one before", "survey team", "put the scores in falling order";
     9 SiteAfterZero: "a site after a zero in a row", "survey team", "close the gap in the list";
     10 SiteNumber: "a site number above the number of sites (in a file also 0)", "survey team", "correct the number";
     11 SiteTwice: "a site twice in one list", "survey team", "strike one of the two";
     12 FileEnds: "the file ends early", "file sender", "send it again, whole";
-    13 Mark: "another mark than the one due", "file sender", "records come as TN, SC, ST .., EN";
+    13 Mark: "another mark than the one due", "file sender", "records come as TN, SC, ST .., EN or as TW, SC, HW, ST .., EN";
     14 StreetNumber: "a street out of turn", "file sender", "number the streets from 1 in their order";
     15 ListLength: "a list longer than the number of sites", "file sender", "correct its length";
     16 BytesAfterEnd: "bytes after EN", "file sender", "end the file there";
@@ -88,6 +88,7 @@ refusals! {
     22 Kilograms: "a site with more kilograms than its limit", "sender of a hand plan", "move streets";
     23 Litres: "a site with more litres than its limit", "sender of a hand plan", "move streets";
     24 Weight: "a household weight outside 1 to 99", "survey team", "correct the weight";
+    25 LostWeight: "a weight other than 1, which a file of the old form would lose", "calling program", "make one of the new form";
 }
 
 impl Refusal {

@@ -4,10 +4,10 @@
 //! first. A refused call leaves the lent slices as they were. Sizes are `n` streets, `m` sites and `k` sites to choose. `scores` are the
 //! `m` scores of the places, best first. `weights` are the `n` household weights of the streets, 1 to 99, which all are 1 where every
 //! street counts alike: what a street gives a site is its score times its weight, and scores, totals and the floor are of these. `rows` are
-//! `n` rows of `m` bytes: the sites that a street has ranked, best first, then zeros. The functions for survey files take no weights.
+//! `n` rows of `m` bytes: the sites that a street has ranked, best first, then zeros.
 //!
-//! A function here has the parameters of the library's own, a kind as [`Kind`] and the loads of a hand plan together as [`Loads`], and gets
-//! more of them with it, while a program that uses the crate's types stays as it is.
+//! A function here has the parameters of the library's own, a kind as [`Kind`], the form of a file as [`Form`](crate::Form) and the loads of
+//! a hand plan together as [`Loads`], and gets more of them with it, while a program that uses the crate's types stays as it is.
 //!
 //! ```
 //! use planner::{slices, Kind, Refusal};
@@ -19,21 +19,10 @@
 //! assert_eq!(slices::floor(2, 2, 3, &scores, &weights, &rows), Err(Refusal::Chosen));
 //! ```
 #![allow(clippy::too_many_arguments, reason = "a function here has the parameters of the library's own")]
-use crate::{raw, version, Kind, Loads, Refusal, VERSION};
+mod files;
 
-/// What a survey file says of its town.
-#[derive(Clone, Copy, Debug, PartialEq, Eq, Hash)]
-#[non_exhaustive]
-pub struct Sizes {
-    /// The number of streets.
-    pub n: usize,
-    /// The number of sites.
-    pub m: usize,
-    /// The number of sites to choose.
-    pub k: usize,
-    /// The kind of plan.
-    pub kind: Kind,
-}
+use crate::{raw, version, Kind, Loads, Refusal, VERSION};
+pub use files::{convert_file, read_file, write_file, Sizes};
 
 /// Takes a packed answer apart: the refusal in the upper half, the total in the lower.
 fn unpacked(answer: u64) -> Result<u32, Refusal> {
@@ -271,57 +260,4 @@ pub fn hand_plan(
             litre_limits.len(),
         )
     })
-}
-
-/// Writes the survey file into a buffer of any length, of which [`FILE_LENGTH`](crate::FILE_LENGTH) bytes are always enough. Gives the
-/// file's length, and changes no byte behind it.
-///
-/// # Errors
-/// As [`check_survey`], without 24; last 7 `FileBufferShort`.
-pub fn write_file(n: usize, m: usize, k: usize, kind: Kind, scores: &[u16], rows: &[u8], file: &mut [u8]) -> Result<usize, Refusal> {
-    // SAFETY: the three pointers are a slice's own, beside its length; only the file is written, and it is borrowed for this call alone.
-    let answer = unsafe {
-        raw::planner_write_file(
-            n,
-            m,
-            k,
-            kind.into(),
-            scores.as_ptr(),
-            scores.len(),
-            rows.as_ptr(),
-            rows.len(),
-            file.as_mut_ptr(),
-            file.len(),
-        )
-    };
-    unpacked(answer).map(|length| length as usize)
-}
-
-/// Reads a survey file of any length into [`SCORES_LENGTH`](crate::SCORES_LENGTH) scores, of which the first `m` are filled, and
-/// [`ROWS_LENGTH`](crate::ROWS_LENGTH) row bytes, of which the first `n` times `m` are.
-///
-/// # Errors
-/// First 6 `BufferLength` for the scores and the rows. Then record by record: 12 `FileEnds` before its mark, 13 `Mark`, 12 in its fixed
-/// part, its fields (1 `Streets`, 2 `Sites`, 3 `Chosen`, 4 `Kind`; 8 `Score`; 14 `StreetNumber`, 15 `ListLength`), 12 in its list, and byte
-/// by byte of the list 10 `SiteNumber`, 11 `SiteTwice`. Last 16 `BytesAfterEnd`.
-pub fn read_file(file: &[u8], scores: &mut [u16], rows: &mut [u8]) -> Result<Sizes, Refusal> {
-    let (mut n, mut m, mut k, mut kind) = (0, 0, 0, 0);
-    // SAFETY: the three pointers are a slice's own, beside its length; scores and rows are borrowed for this call alone, and each of the
-    // four numbers is this function's own.
-    let answer = unsafe {
-        raw::planner_read_file(
-            file.as_ptr(),
-            file.len(),
-            &mut n,
-            &mut m,
-            &mut k,
-            &mut kind,
-            scores.as_mut_ptr(),
-            scores.len(),
-            rows.as_mut_ptr(),
-            rows.len(),
-        )
-    };
-    unpacked(answer)?;
-    Ok(Sizes { n, m, k, kind: Kind::try_from(kind)? })
 }

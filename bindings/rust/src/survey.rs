@@ -112,9 +112,9 @@ impl Survey {
         Ok(Survey { weights: weights.to_vec(), ..self })
     }
 
-    /// The survey of a file that was read, in which the reader has tried all that the check tries. A file has no weights: they are all 1.
-    pub(crate) fn of_file(scores: Vec<u16>, rows: Vec<u8>) -> Survey {
-        Survey { weights: ones(rows.len() / scores.len()), scores, rows }
+    /// The survey of a file that was read, in which the reader has tried all that the check tries.
+    pub(crate) fn of_file(scores: Vec<u16>, weights: Vec<u8>, rows: Vec<u8>) -> Survey {
+        Survey { scores, weights, rows }
     }
 
     /// The number of streets.

@@ -1,7 +1,7 @@
 //! An empty buffer may be a null pointer: each function, with each of its buffers empty in turn and with all of them, answers as it does
 //! for an empty buffer at an address, and every other buffer holds what it held.
 use planner::raw::*;
-use planner::{ROWS_LENGTH, SCORES_LENGTH};
+use planner::{ROWS_LENGTH, SCORES_LENGTH, WEIGHTS_LENGTH};
 use std::ptr;
 
 /// The buffers of a worked survey of 4 streets and 3 sites with 2 to choose, of the right lengths for each function.
@@ -19,9 +19,11 @@ struct Lent {
     litre_limits: Vec<u32>,
     chosen: Vec<u8>,
     file: Vec<u8>,
+    buffer: Vec<u8>,
     read_scores: Vec<u16>,
+    read_weights: Vec<u8>,
     read_rows: Vec<u8>,
-    numbers: [usize; 4],
+    numbers: [usize; 5],
 }
 
 fn lent() -> Lent {
@@ -37,10 +39,12 @@ fn lent() -> Lent {
         kilogram_limits: vec![11, 15, 0],
         litre_limits: vec![5, 7, 0],
         chosen: vec![8; 2],
-        file: [&b"TN\x02\0\x02\x02\x01SC\x02\0\x01\0ST\x01\0\x02\x01\x02ST\x02\0\x01\x01EN"[..], &[0; 20]].concat(),
+        file: b"TW\x02\0\x02\x02\x01SC\x02\0\x01\0HW\x01\x01ST\x01\0\x02\x01\x02ST\x02\0\x01\x01EN".to_vec(),
+        buffer: vec![8; 54],
         read_scores: vec![8; SCORES_LENGTH],
+        read_weights: vec![8; WEIGHTS_LENGTH],
         read_rows: vec![8; ROWS_LENGTH],
-        numbers: [8; 4],
+        numbers: [8; 5],
     }
 }
 
@@ -96,7 +100,7 @@ macro_rules! call {
     };
 }
 
-const CALLS: [Call; 13] = [
+const CALLS: [Call; 16] = [
     call!(planner_check_survey: 4 3 2; scores 6 weights 6 rows 6;),
     call!(planner_ranked_part: ; row 0;),
     call!(planner_row_score: 3; scores 6; 1; row 6; 1),
@@ -108,25 +112,33 @@ const CALLS: [Call; 13] = [
     call!(planner_floor: 4 3 2; scores 6 weights 6 rows 6;),
     call!(planner_hand_plan: 4 3 2 0; scores 6 weights 6 rows 6 division 6; 7; kilograms 6 litres 6 kilogram_limits 6 litre_limits 6),
     call!(planner_hand_plan: 4 3 2 1; scores 6 weights 6 rows 6 division 6; 7; kilograms 6 litres 6 kilogram_limits 6 litre_limits 6),
-    call!(planner_write_file: 4 3 2 1; scores 6 rows 6 file 7;),
-    Call { name: "planner_read_file", refusals: &[("file", 12), ("read_scores", 6), ("read_rows", 6)], run: read_file },
+    call!(planner_write_file: 4 3 2 1 0; scores 6 weights 6 rows 6 buffer 7;),
+    call!(planner_write_file: 4 3 2 1 1; scores 6 weights 6 rows 6 buffer 7;),
+    call!(planner_convert_file: ; file 12; 0; buffer 7),
+    call!(planner_convert_file: ; file 12; 1; buffer 7),
+    Call {
+        name: "planner_read_file",
+        refusals: &[("file", 12), ("read_scores", 6), ("read_weights", 6), ("read_rows", 6)],
+        run: read_file,
+    },
 ];
 
 fn read_file(empty: Empty, lent: &mut Lent) -> u64 {
-    let [n, m, k, kind] = &mut lent.numbers;
-    // the file ends before the zeros behind it
-    let file_length = empty.length("file", 28);
-    // SAFETY: each pointer is a vector's own beside its length, only an empty buffer has another, and the four numbers are apart.
+    let [n, m, k, kind, form] = &mut lent.numbers;
+    // SAFETY: each pointer is a vector's own beside its length, only an empty buffer has another, and the five numbers are apart.
     unsafe {
         planner_read_file(
             empty.start("file", &mut lent.file),
-            file_length,
+            empty.length("file", lent.file.len()),
             n,
             m,
             k,
             kind,
+            form,
             empty.start("read_scores", &mut lent.read_scores),
             empty.length("read_scores", lent.read_scores.len()),
+            empty.start("read_weights", &mut lent.read_weights),
+            empty.length("read_weights", lent.read_weights.len()),
             empty.start("read_rows", &mut lent.read_rows),
             empty.length("read_rows", lent.read_rows.len()),
         )
@@ -160,7 +172,8 @@ fn each_buffer_of_each_function() {
 fn all_buffers_of_each_function() {
     for call in &CALLS {
         let names: Vec<&str> = call.refusals.iter().map(|(name, _)| *name).collect();
-        let first = call.refusals.iter().map(|(_, refusal)| *refusal).filter(|&refusal| refusal <= 6).min();
-        assert_eq!(answer(call, &names) >> 32, first.expect("a buffer that is tried for its length"), "{} without buffers", call.name);
+        // by number, with 7 last
+        let first = call.refusals.iter().map(|(_, refusal)| *refusal).min_by_key(|&refusal| (refusal == 7, refusal));
+        assert_eq!(answer(call, &names) >> 32, first.expect("a call with a buffer"), "{} without buffers", call.name);
     }
 }

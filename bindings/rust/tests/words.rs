@@ -1,5 +1,5 @@
 //! The crate, include/planner.h and the repository's README say the same: refusals, constants, version and functions.
-use planner::{Kind, Loads, Refusal};
+use planner::{Form, Kind, Loads, Refusal};
 use std::mem;
 
 const HEADER: &str = include_str!("../../../include/planner.h");
@@ -72,10 +72,13 @@ fn the_header_has_the_constants() {
         ("PLANNER_TOP_WEIGHT", planner::TOP_WEIGHT.into()),
         ("PLANNER_MOST_LOAD", Loads::MOST as usize),
         ("PLANNER_SCORES_LENGTH", planner::SCORES_LENGTH),
+        ("PLANNER_WEIGHTS_LENGTH", planner::WEIGHTS_LENGTH),
         ("PLANNER_ROWS_LENGTH", planner::ROWS_LENGTH),
         ("PLANNER_FILE_LENGTH", planner::FILE_LENGTH),
         ("PLANNER_FREE", Kind::Free.into()),
         ("PLANNER_BALANCED", Kind::Balanced.into()),
+        ("PLANNER_OLD_FORM", Form::Old.into()),
+        ("PLANNER_NEW_FORM", Form::New.into()),
         ("PLANNER_VERSION", planner::VERSION as usize),
     ];
     assert_eq!(constants.map(|(name, _)| (name, defined(name))), constants);
@@ -107,7 +110,7 @@ fn names_in_rust(parameters: &str) -> Vec<&str> {
 #[test]
 fn the_header_has_the_functions() {
     let functions: Vec<&str> = RAW.split("fn ").skip(1).filter_map(|rest| rest.split('(').next()).collect();
-    assert_eq!(functions.len(), 12);
+    assert_eq!(functions.len(), 13);
     for function in functions {
         let names = names_in_rust(parameters(RAW, function)[0]);
         let declared = parameters(HEADER, function).into_iter().any(|one| names_in_c(one) == names);

@@ -72,9 +72,10 @@ pub fn hand_plan(t: &Town, kind: usize, division: &[u8], claimed: u32, loads: &L
     })
 }
 
-pub fn write_file(t: &Town, kind: usize, file: &mut [u8]) -> Result<usize, Refusal> {
-    if let Ok(kind) = Kind::try_from(kind) {
-        return slices::write_file(t.n, t.m, t.k, kind, &t.scores, &t.rows, file);
+/// Any number for the form too.
+pub fn write_file(t: &Town, kind: usize, form: usize, file: &mut [u8]) -> Result<usize, Refusal> {
+    if let (Ok(kind), 0 | 1) = (Kind::try_from(kind), form) {
+        return slices::write_file(t.n, t.m, t.k, kind, form.into(), &t.scores, &t.weights, &t.rows, file);
     }
     // SAFETY: each pointer is a slice's own, beside its length; the file is borrowed for this call alone.
     let answer = unsafe {
@@ -83,13 +84,25 @@ pub fn write_file(t: &Town, kind: usize, file: &mut [u8]) -> Result<usize, Refus
             t.m,
             t.k,
             kind,
+            form,
             t.scores.as_ptr(),
             t.scores.len(),
+            t.weights.as_ptr(),
+            t.weights.len(),
             t.rows.as_ptr(),
             t.rows.len(),
             file.as_mut_ptr(),
             file.len(),
         )
     };
+    unpacked(answer).map(|length| length as usize)
+}
+
+pub fn convert_file(file: &[u8], form: usize, buffer: &mut [u8]) -> Result<usize, Refusal> {
+    if form <= 1 {
+        return slices::convert_file(file, form.into(), buffer);
+    }
+    // SAFETY: each pointer is a slice's own, beside its length; the buffer is borrowed for this call alone.
+    let answer = unsafe { raw::planner_convert_file(file.as_ptr(), file.len(), form, buffer.as_mut_ptr(), buffer.len()) };
     unpacked(answer).map(|length| length as usize)
 }

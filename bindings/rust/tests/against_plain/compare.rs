@@ -1,9 +1,9 @@
 //! One call of the library and the same by `plain`: the answer, and every byte lent, must agree. Each gives back the number that was
 //! refused, 0 for an accepted call.
-use crate::any_kind;
 use crate::plain::loads::Loads;
 use crate::plain::survey::{self, division_total, Town};
-use crate::plain::{balanced, division, file, free, hand, refusals, BALANCED, FREE};
+use crate::plain::{balanced, division, free, hand, refusals, BALANCED, FREE, NEW_FORM, OLD_FORM};
+use crate::{any_kind, compare_files};
 use planner::{slices, Refusal};
 use std::fmt::Debug;
 
@@ -11,7 +11,7 @@ use std::fmt::Debug;
 pub const NUMBERS: usize = Refusal::ALL.len() + 1;
 
 /// What lent buffers hold before a call, so that a byte that is touched shows.
-const OLD: u8 = 0xA5;
+pub const OLD: u8 = 0xA5;
 
 /// The lengths of a plan's buffers.
 #[derive(Clone, Copy)]
@@ -21,14 +21,14 @@ pub struct Buffers {
 }
 
 /// An outcome of the library against one by `plain`.
-fn same<T: PartialEq + Debug>(ours: Result<T, Refusal>, plain: Result<T, u8>, call: &str, town: &Town) -> u8 {
+pub fn same<T: PartialEq + Debug>(ours: Result<T, Refusal>, plain: Result<T, u8>, call: &str, town: &Town) -> u8 {
     let number = *plain.as_ref().err().unwrap_or(&0);
     assert_eq!(ours.map_err(|refusal| refusal.number() as u8), plain, "{call} of {town:?}");
     number
 }
 
 /// A buffer after a call: the new bytes where it was accepted, else the old ones.
-fn held(buffer: &[u8], new: Option<&[u8]>, call: &str, town: &Town) {
+pub fn held(buffer: &[u8], new: Option<&[u8]>, call: &str, town: &Town) {
     match new {
         Some(bytes) => assert_eq!(buffer, bytes, "the buffer of {call} of {town:?}"),
         None => assert!(buffer.iter().all(|&byte| byte == OLD), "a refused {call} of {town:?} wrote"),
@@ -121,62 +121,7 @@ pub fn hand_plan(t: &Town, kind: usize, division: &[u8], claimed: u32, loads: &L
     same(ours, plain, &format!("hand_plan {division:?} of kind {kind} with {loads:?}"), t)
 }
 
-pub fn write_file(t: &Town, kind: usize, length: usize) -> u8 {
-    let mut buffer = vec![OLD; length];
-    let ours = any_kind::write_file(t, kind, &mut buffer);
-    let plain = refusals::write(t, kind).and_then(|()| {
-        let file = file::write(t, kind);
-        if length < file.len() {
-            Err(7)
-        } else {
-            Ok(file)
-        }
-    });
-    let size = plain.as_ref().map_or(0, |file| file.len());
-    held(&buffer[..size], plain.as_deref().ok(), "write_file", t);
-    held(&buffer[size..], None, "write_file", t);
-    same(ours, plain.map(|file| file.len()), "write_file", t)
-}
-
-/// The reader, through the raw function, since the four numbers it is lent are to be looked at too.
-pub fn read_file(bytes: &[u8], rows_length: usize, scores_length: usize) -> u8 {
-    let (mut rows, mut scores, mut sizes) = (vec![OLD; rows_length], vec![u16::from(OLD); scores_length], [usize::from(OLD); 4]);
-    let [n, m, k, kind] = &mut sizes;
-    // SAFETY: each pointer is a vector's own and stands beside its length.
-    let answer = unsafe {
-        planner::raw::planner_read_file(
-            bytes.as_ptr(),
-            bytes.len(),
-            n,
-            m,
-            k,
-            kind,
-            scores.as_mut_ptr(),
-            scores.len(),
-            rows.as_mut_ptr(),
-            rows.len(),
-        )
-    };
-    let right = refusals::length(rows_length, 25_600).and_then(|()| refusals::length(scores_length, 64));
-    let filled = match right.and_then(|()| file::read(bytes)) {
-        Err(number) => {
-            assert_eq!(answer, u64::from(number) << 32, "reading {bytes:?}");
-            assert_eq!(sizes, [usize::from(OLD); 4], "a refused reading of {bytes:?} wrote");
-            (number, Vec::new(), Vec::new())
-        }
-        Ok((town, kind)) => {
-            assert_eq!((answer, sizes), (0, [town.n, town.m, town.k, kind]), "reading {bytes:?}");
-            (0, town.rows, town.scores)
-        }
-    };
-    let (number, new_rows, new_scores) = filled;
-    assert!(rows.starts_with(&new_rows) && scores.starts_with(&new_scores), "what was read of {bytes:?}");
-    assert!(rows[new_rows.len()..].iter().all(|&byte| byte == OLD), "rows behind {bytes:?}");
-    assert!(scores[new_scores.len()..].iter().all(|&score| score == u16::from(OLD)), "scores behind {bytes:?}");
-    number
-}
-
-/// A right survey, asked for everything: both plans, the division of a list, the floor, and its file there and back.
+/// A right survey, asked for everything: both plans, the division of a list, the floor, and its files there and back.
 pub fn everything(t: &Town, sites: &[u8], kind: usize) {
     assert_eq!(check_survey(t), 0);
     t.rows.chunks(t.m).for_each(ranked_part);
@@ -190,10 +135,7 @@ pub fn everything(t: &Town, sites: &[u8], kind: usize) {
     plan(t, FREE, exact);
     plan(t, BALANCED, exact);
     floor(t);
-    let file = file::write(t, kind);
-    assert_eq!(file::read(&file), Ok((t.unweighted(), kind)));
-    write_file(t, kind, file.len());
-    write_file(t, kind, file.len() - 1);
-    write_file(t, kind, 27_739);
-    read_file(&file, 25_600, 64);
+    for (town, form) in [(&t.unweighted(), OLD_FORM), (t, NEW_FORM)] {
+        compare_files::there_and_back(town, kind, form);
+    }
 }

@@ -1,16 +1,17 @@
 //! Surveys, lists of sites and buffers with something wrong: the first number in document 01's order comes back, and no byte changes.
 use crate::compare::{self, Buffers, NUMBERS};
 use crate::plain::survey::Town;
-use crate::plain::{BALANCED, FREE};
+use crate::plain::{BALANCED, FREE, NEW_FORM, OLD_FORM};
 use crate::random::Random;
-use crate::towns;
+use crate::{compare_files, towns};
+use planner::FILE_LENGTH;
 
 /// A wrong value for a size.
 fn wrong_size(random: &mut Random, size: usize, most: usize) -> usize {
     [0, most.wrapping_add(1), usize::MAX, size.wrapping_add(1), size.wrapping_sub(1)][random.below(5)]
 }
 
-/// A number that is no kind; some of them are one in their low 8, 16 or 32 bits.
+/// A number that is no kind, and as a form the new one; some of them are 0 or 1 in their low 8, 16 or 32 bits.
 pub fn wrong_kind(random: &mut Random) -> usize {
     let any = random.within(2, usize::MAX);
     [2, 3, 255, 256, 257, 1 << 16, (1 << 16) + 1, 1 << 32, (1 << 32) + 1, 1 << 63, usize::MAX, any][random.below(12)]
@@ -72,7 +73,8 @@ fn call_all(random: &mut Random, town: &Town, seen: &mut [usize; NUMBERS]) {
     let lengths = Buffers { division: length(random, town.n), chosen: length(random, town.k) };
     let wrong = wrong_kind(random);
     let kind = [FREE, BALANCED, wrong, wrong][random.below(4)];
-    let room = [0, 8, 50, 27_739][random.below(4)];
+    let form = [OLD_FORM, NEW_FORM, wrong][random.below(3)];
+    let room = [0, 8, 50, FILE_LENGTH][random.below(4)];
     let numbers = [
         compare::check_survey(town),
         compare::row_score(town, weight, row, site),
@@ -83,7 +85,7 @@ fn call_all(random: &mut Random, town: &Town, seen: &mut [usize; NUMBERS]) {
         compare::plan(town, BALANCED, lengths),
         compare::plan(town, wrong, lengths),
         compare::floor(town),
-        compare::write_file(town, kind, room),
+        compare_files::write_file(town, kind, form, room),
     ];
     for number in numbers {
         seen[usize::from(number)] += 1;
@@ -103,7 +105,7 @@ fn damaged_surveys() {
         }
         call_all(&mut random, &town, &mut seen);
     }
-    for number in [0, 1, 2, 3, 4, 5, 6, 7, 8, 9, 10, 11, 17, 20, 24] {
+    for number in [0, 1, 2, 3, 4, 5, 6, 7, 8, 9, 10, 11, 17, 20, 24, 25] {
         assert!(seen[number] > 100, "{number} came {} times", seen[number]);
     }
 }

@@ -2,6 +2,7 @@
 //! definition, rounds played as they are told, every division tried on small towns.
 mod any_kind;
 mod compare;
+mod compare_files;
 mod damaged;
 mod drawn_loads;
 mod files;

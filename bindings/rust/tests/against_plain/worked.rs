@@ -1,6 +1,6 @@
 //! The documents' worked surveys, and each refusal once.
 use crate::plain::survey::Town;
-use planner::{slices, Kind, Loads, Refusal, ROWS_LENGTH, SCORES_LENGTH};
+use planner::{slices, Form, Kind, Loads, Refusal, ROWS_LENGTH, SCORES_LENGTH, WEIGHTS_LENGTH};
 
 /// A town from its lists.
 fn town(m: usize, k: usize, scores: &[u16], lists: &[&[u8]]) -> Town {
@@ -99,7 +99,7 @@ fn as_many_sites_as_streets_or_more() {
     assert_eq!(plan(Kind::Free, &t), Ok((4, vec![1, 2, 3], vec![1, 1])));
     assert_eq!(slices::hand_plan(2, 3, 3, Kind::Free, &t.scores, &t.weights, &t.rows, &[1, 3], 3, loads), Ok(3));
     assert_eq!(slices::list_total(2, 3, &t.scores, &t.weights, &t.rows, &[3, 2, 1]), Ok(4));
-    assert_eq!(slices::write_file(2, 3, 3, Kind::Balanced, &t.scores, &t.rows, &mut [0; 40]), Ok(33));
+    assert_eq!(slices::write_file(2, 3, 3, Kind::Balanced, Form::Old, &t.scores, &t.weights, &t.rows, &mut [0; 40]), Ok(33));
 }
 
 #[test]
@@ -206,14 +206,23 @@ fn loads_of_hand_plans() {
 #[test]
 fn worked_file() {
     let t = p5();
-    let mut file = [0; 28];
-    assert_eq!(slices::write_file(t.n, t.m, t.k, Kind::Balanced, &t.scores, &t.rows, &mut file), Ok(28));
-    assert_eq!(file, P5_FILE);
-    let (mut scores, mut rows) = ([0; SCORES_LENGTH], [0; ROWS_LENGTH]);
-    let sizes = slices::read_file(&file, &mut scores, &mut rows).map(|sizes| (sizes.n, sizes.m, sizes.k, sizes.kind));
-    assert_eq!(sizes, Ok((2, 2, 2, Kind::Balanced)));
-    assert_eq!((&rows[..4], &scores[..2]), (&t.rows[..], &t.scores[..]));
-    assert_eq!(slices::read_file(&[], &mut scores, &mut rows), Err(Refusal::FileEnds));
+    let (mut scores, mut weights, mut rows) = ([0; SCORES_LENGTH], [0; WEIGHTS_LENGTH], [0; ROWS_LENGTH]);
+    // P5 in the new form, with weights of 1 and 3
+    let weighted = [b"TW", &P5_FILE[2..13], b"HW\x01\x03", &P5_FILE[13..]].concat();
+    for (form, of_streets, bytes) in [(Form::Old, [1, 1], &P5_FILE[..]), (Form::New, [1, 3], &weighted)] {
+        let mut file = vec![0; bytes.len()];
+        let length = slices::write_file(t.n, t.m, t.k, Kind::Balanced, form, &t.scores, &of_streets, &t.rows, &mut file);
+        assert_eq!((length, &file[..]), (Ok(bytes.len()), bytes));
+        let sizes = slices::read_file(&file, &mut scores, &mut weights, &mut rows);
+        let sizes = sizes.map(|sizes| (sizes.n, sizes.m, sizes.k, sizes.kind, sizes.form));
+        assert_eq!(sizes, Ok((2, 2, 2, Kind::Balanced, form)));
+        assert_eq!((&scores[..2], &weights[..2], &rows[..4]), (&t.scores[..], &of_streets[..], &t.rows[..]));
+    }
+    assert_eq!(slices::read_file(&[], &mut scores, &mut weights, &mut rows), Err(Refusal::FileEnds));
+    assert_eq!(slices::convert_file(&weighted, Form::Old, &mut [0; 32]), Err(Refusal::LostWeight));
+    let mut buffer = [9; 33];
+    assert_eq!(slices::convert_file(&P5_FILE, Form::New, &mut buffer), Ok(32));
+    assert_eq!((&buffer[..15], &buffer[15..17], &buffer[17..]), (&weighted[..15], &[1, 1][..], &[&P5_FILE[13..], &[9]].concat()[..]));
 }
 
 /// The reader's answer to P5's file with one byte changed, and one more or less behind it.
@@ -221,7 +230,7 @@ fn changed(index: usize, byte: u8, length: usize) -> Refusal {
     let mut file = P5_FILE.to_vec();
     file[index] = byte;
     file.resize(length, 0);
-    slices::read_file(&file, &mut [0; SCORES_LENGTH], &mut [0; ROWS_LENGTH]).unwrap_err()
+    slices::read_file(&file, &mut [0; SCORES_LENGTH], &mut [0; WEIGHTS_LENGTH], &mut [0; ROWS_LENGTH]).unwrap_err()
 }
 
 #[test]
@@ -237,6 +246,9 @@ fn each_refusal() {
     let hand = |division: [u8; 4], claimed, loads| {
         slices::hand_plan(4, 3, 2, Kind::Free, &t.scores, &t.weights, &t.rows, &division, claimed, loads).unwrap_err()
     };
+    let write = |weights: &[u8], file: &mut [u8]| {
+        slices::write_file(4, 3, 2, Kind::Balanced, Form::Old, &t.scores, weights, &t.rows, file).unwrap_err()
+    };
     let given = [
         check(0, 3, 2, &t.scores, &t.rows),
         check(4, 65, 2, &t.scores, &t.rows),
@@ -244,7 +256,7 @@ fn each_refusal() {
         changed(6, 2, 28),
         floor(&town(3, 3, &[2, 1, 0], &[&[1, 2, 3], &[1, 3, 2]])).unwrap_err(),
         check(4, 3, 2, &t.scores, &t.rows[1..]),
-        slices::write_file(4, 3, 2, Kind::Balanced, &t.scores, &t.rows, &mut bytes).unwrap_err(),
+        write(&t.weights, &mut bytes),
         check(4, 3, 2, &[2, 1, 2], &t.rows),
         with(0, 0),
         with(0, 4),
@@ -262,6 +274,7 @@ fn each_refusal() {
         hand([1, 1, 2, 2], 7, Loads { kilograms: &[5, 6, 7, 9], ..LOADS }),
         hand([1, 1, 2, 2], 7, Loads { litres: &[1, 5, 3, 4], ..LOADS }),
         slices::check_survey(4, 3, 2, &t.scores, &[1, 1, 1, 100], &t.rows).unwrap_err(),
+        write(&[1, 1, 1, 2], &mut bytes),
     ];
     assert_eq!(given, Refusal::ALL);
 }

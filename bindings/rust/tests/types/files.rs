@@ -2,14 +2,15 @@
 use crate::random::Random;
 use crate::towns;
 use crate::{worked, NUMBERS};
-use planner::{slices, Kind, Refusal, Survey, SurveyFile, FILE_LENGTH, ROWS_LENGTH, SCORES_LENGTH};
+use planner::{slices, Form, Kind, Refusal, Survey, SurveyFile, FILE_LENGTH, ROWS_LENGTH, SCORES_LENGTH, WEIGHTS_LENGTH};
 
-/// A drawn town's survey with a kind and a K.
-fn drawn_file(random: &mut Random, most_streets: usize, most_sites: usize) -> SurveyFile {
+/// A drawn town's survey with a kind and a K, in the new form or in one that has its weights.
+pub fn drawn_file(random: &mut Random, most_streets: usize, most_sites: usize) -> SurveyFile {
     let town = towns::any_town(random, most_streets, most_sites);
-    // without the town's weights, which a file does not have
-    let survey = Survey::from_rows(&town.scores, &town.rows).expect("a right survey");
-    SurveyFile::new(survey, [Kind::Free, Kind::Balanced][random.below(2)], town.k)
+    let survey = Survey::from_rows(&town.scores, &town.rows).and_then(|survey| survey.with_weights(&town.weights));
+    let file = SurveyFile::new(survey.expect("a right survey"), [Kind::Free, Kind::Balanced][random.below(2)], town.k);
+    let form = file.form();
+    file.with_form([form, Form::New][random.below(2)])
 }
 
 #[test]
@@ -21,14 +22,16 @@ fn there_and_back() {
         let mut lent = vec![0; FILE_LENGTH];
         let survey = file.survey();
         let (n, m) = (survey.streets(), survey.sites());
-        let length = slices::write_file(n, m, file.k(), file.kind(), survey.scores(), survey.rows(), &mut lent);
+        let (scores, weights, rows) = (survey.scores(), survey.weights(), survey.rows());
+        let length = slices::write_file(n, m, file.k(), file.kind(), file.form(), scores, weights, rows, &mut lent);
         assert_eq!(bytes, lent[..length.expect("a right file")]);
         let read = SurveyFile::read(&bytes).expect("a right file");
         assert_eq!(read, file);
         assert_eq!(read.write(), Ok(bytes));
         assert_eq!(read.plan(), survey.plan(file.kind(), file.k()));
         // what the reader accepts, the check accepts
-        assert_eq!(Survey::from_rows(read.survey().scores(), read.survey().rows()), Ok(read.into_survey()));
+        let checked = Survey::from_rows(read.survey().scores(), read.survey().rows());
+        assert_eq!(checked.and_then(|survey| survey.with_weights(read.survey().weights())), Ok(read.into_survey()));
     }
 }
 
@@ -44,24 +47,31 @@ fn damaged_files() {
             1 => bytes.push(0),
             _ => bytes[at] = [0, 1, 255, bytes[at].wrapping_add(1)][random.below(4)],
         }
-        let sizes = slices::read_file(&bytes, &mut [0; SCORES_LENGTH], &mut [0; ROWS_LENGTH]);
+        let sizes = slices::read_file(&bytes, &mut [0; SCORES_LENGTH], &mut [0; WEIGHTS_LENGTH], &mut [0; ROWS_LENGTH]);
         let read = SurveyFile::read(&bytes);
         seen[read.as_ref().err().map_or(0, |refusal| refusal.number() as usize)] += 1;
-        let of_file = |file: SurveyFile| (file.survey().streets(), file.survey().sites(), file.k(), file.kind());
-        assert_eq!(read.map(of_file), sizes.map(|sizes| (sizes.n, sizes.m, sizes.k, sizes.kind)), "{bytes:?}");
+        let of_file = |file: SurveyFile| (file.survey().streets(), file.survey().sites(), file.k(), file.kind(), file.form());
+        assert_eq!(read.map(of_file), sizes.map(|sizes| (sizes.n, sizes.m, sizes.k, sizes.kind, sizes.form)), "{bytes:?}");
     }
-    for number in [0, 1, 2, 3, 4, 8, 10, 11, 12, 13, 14, 15, 16] {
+    for number in [0, 1, 2, 3, 4, 8, 10, 11, 12, 13, 14, 15, 16, 24] {
         assert!(seen[number] > 5, "{number} came {} times", seen[number]);
     }
 }
 
 #[test]
-fn weights_are_left_out() {
+fn weights_are_kept() {
     let file = SurveyFile::new(worked::p1().with_weights(&[1, 1, 1, 9]).expect("right weights"), Kind::Free, 1);
-    assert_eq!(file.plan().map(|plan| plan.sites), Ok(vec![3]));
+    assert_eq!(file.form(), Form::New);
     let read = SurveyFile::read(&file.write().expect("a right file")).expect("a right file");
-    assert_eq!(read.plan().map(|plan| plan.sites), Ok(vec![1]));
-    assert_eq!(read.into_survey(), worked::p1());
+    assert_eq!(read, file);
+    assert_eq!(read.plan().map(|plan| plan.sites), Ok(vec![3]));
+    let plain = SurveyFile::new(worked::p1(), Kind::Free, 1);
+    assert_eq!(plain.form(), Form::Old);
+    assert_eq!(plain.plan().map(|plan| plan.sites), Ok(vec![1]));
+    // in the old form they would be lost, after a K that is wrong
+    assert_eq!(file.with_form(Form::Old).write(), Err(Refusal::LostWeight));
+    let wrong = SurveyFile::new(read.into_survey(), Kind::Free, 4).with_form(Form::Old);
+    assert_eq!(wrong.write(), Err(Refusal::Chosen));
 }
 
 #[test]

@@ -1,4 +1,5 @@
 //! The crate's types on worked surveys and drawn towns, against the functions over slices beneath them.
+mod conversions;
 mod divisions;
 mod drawn;
 mod files;

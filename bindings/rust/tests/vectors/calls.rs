@@ -1,5 +1,5 @@
 //! The calls that vectors name: what each is given, what it gives, and the archive's function for it. The functions are the raw ones, since
-//! the safe ones take no kind but 0 and 1, and keep back a refused call's total and what it leaves in the four numbers that the reader is
+//! the safe ones take no kind but 0 and 1, and keep back a refused call's total and what it leaves in the five numbers that the reader is
 //! lent.
 use crate::lent::Lent;
 use planner::raw::*;
@@ -33,7 +33,7 @@ macro_rules! pass {
 }
 
 #[rustfmt::skip]
-pub const CALLS: [Call; 11] = [
+pub const CALLS: [Call; 12] = [
     Call { name: "check_survey", inputs: "n m k scores weights rows", outputs: "",
            run: |given| pass!(given, planner_check_survey, n m k; scores weights rows;) },
     Call { name: "ranked_part", inputs: "row", outputs: "length",
@@ -53,15 +53,17 @@ pub const CALLS: [Call; 11] = [
     Call { name: "hand_plan", inputs: "n m k kind scores weights rows division claimed kilograms litres kilogram-limits litre-limits", outputs: "total",
            run: |given| pass!(given, planner_hand_plan, n m k kind; scores weights rows division; claimed;
                               kilograms litres kilogram_limits litre_limits) },
-    Call { name: "read_file", inputs: "file rows-length scores-length", outputs: "n m k kind rows.. scores..",
+    Call { name: "read_file", inputs: "file rows-length scores-length weights-length", outputs: "n m k kind form rows.. scores.. weights..",
            run: read_file },
-    Call { name: "write_file", inputs: "n m k kind scores rows file-length", outputs: "length file..",
-           run: |given| pass!(given, planner_write_file, n m k kind; scores rows file;) },
+    Call { name: "write_file", inputs: "n m k kind form scores weights rows file-length", outputs: "length file..",
+           run: |given| pass!(given, planner_write_file, n m k kind form; scores weights rows file;) },
+    Call { name: "convert_file", inputs: "file form file-length", outputs: "length file..",
+           run: |given| pass!(given, planner_convert_file, ; given_file; form; file) },
 ];
 
-/// The reader, which is lent its four numbers too.
+/// The reader, which is lent its five numbers too.
 fn read_file(given: &mut Given) -> u64 {
-    // SAFETY: each pointer to a buffer stands beside the length of the memory that it starts, and each of the four numbers has memory of
+    // SAFETY: each pointer to a buffer stands beside the length of the memory that it starts, and each of the five numbers has memory of
     // its own.
     unsafe {
         planner_read_file(
@@ -71,8 +73,11 @@ fn read_file(given: &mut Given) -> u64 {
             given.start("m"),
             given.start("k"),
             given.start("kind"),
+            given.start("form"),
             given.start("scores"),
             given.length("scores"),
+            given.start("weights"),
+            given.length("weights"),
             given.start("rows"),
             given.length("rows"),
         )
@@ -80,12 +85,12 @@ fn read_file(given: &mut Given) -> u64 {
 }
 
 /// The keys that stand for one number; every other key stands for a buffer.
-pub const NUMBERS: [&str; 7] = ["n", "m", "k", "kind", "weight", "site", "claimed"];
+pub const NUMBERS: [&str; 8] = ["n", "m", "k", "kind", "form", "weight", "site", "claimed"];
 
 /// The bytes of a number, or of an entry of a buffer.
 pub fn width(key: &str) -> usize {
     match key {
-        "n" | "m" | "k" | "kind" => 8,
+        "n" | "m" | "k" | "kind" | "form" => 8,
         "claimed" | "kilograms" | "litres" | "kilogram-limits" | "litre-limits" => 4,
         "scores" => 2,
         _ => 1,

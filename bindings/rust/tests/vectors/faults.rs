@@ -74,6 +74,44 @@ fn inputs_left_out() {
     assert_eq!(run::every_block("here", &longer).1, ["here:1: hand_plan answers 6 with 0, and 0 with 7 is due"]);
 }
 
+/// One street and one site as a file, in the old form and in the new one with a weight of 9.
+const OLD_FILE: &str = "file 54 4E 01 00 01 01 00 53 43 07 00 53 54 01 00 01 01 45 4E\n";
+const NEW_FILE: &str = "file 54 57 01 00 01 01 00 53 43 07 00 48 57 09 53 54 01 00 01 01 45 4E\n";
+
+#[test]
+fn forms_left_out() {
+    let read = format!("call read_file\n{OLD_FILE}rows-length 25600\nscores-length 64\n=> 0\nn 1\nm 1\nk 1\nkind 0\nrows 1\nscores 7\n");
+    let write = format!("call write_file\nn 1\nm 1\nk 1\nkind 0\nscores 7\nrows 1\nfile-length 19\n=> 0\nlength 19\n{OLD_FILE}");
+    let read_with = read.replace("=> 0", "weights-length 400\n=> 0") + "form 0\nweights 1\n";
+    let write_with = write.replace("scores", "form 0\nweights 1\nscores");
+    for file in ["base.txt", "2026-05.txt"] {
+        assert_eq!(run::every_block(file, &format!("{read}\n{write}")), (2, Vec::new()));
+        let twice = |call, key| vec![format!("{file}:1: `{call}` has no line `{key}`, or has it twice")];
+        assert_eq!(run::every_block(file, &read_with).1, twice("read_file", "weights-length"));
+        assert_eq!(run::every_block(file, &write_with).1, twice("write_file", "form"));
+        let wrong = format!("{file}:1: `form` after read_file: its entry 1 is 1 and should be 0");
+        assert_eq!(run::every_block(file, &read.replace(OLD_FILE, NEW_FILE)).1, [wrong]);
+    }
+    for file in ["2026-06.txt", "2026-06-full.txt", "2026-07.txt"] {
+        assert_eq!(run::every_block(file, &format!("{read_with}\n{write_with}")), (2, Vec::new()));
+        assert_eq!(run::every_block(file, &read).1, [format!("{file}:1: `read_file` lacks its line `weights-length`")]);
+        assert_eq!(run::every_block(file, &write).1, [format!("{file}:1: `write_file` lacks its line `form`")]);
+    }
+}
+
+/// The converter's file and its buffer have one key.
+#[test]
+fn a_file_read_and_a_file_written() {
+    let convert = format!("call convert_file\n{NEW_FILE}form 1\nfile-length 23\n=> 0\nlength 22\n{NEW_FILE}");
+    assert_eq!(run::every_block("here", &convert), (1, Vec::new()));
+    let differs = convert.replace("length 22\nfile 54 57", "length 22\nfile 54 4E");
+    assert_eq!(run::every_block("here", &differs).1, ["here:1: `file` after convert_file: its entry 2 is 87 and should be 78"]);
+    let lost = convert.replace("form 1", "form 0");
+    assert_eq!(run::every_block("here", &lost).1, ["here:1: convert_file answers 25 with 0, and 0 with 22 is due"]);
+    let short = convert.replace("file-length 23", "file-length 21");
+    assert_eq!(run::every_block("here", &short).1, ["here:7: 22 values for the 21 entries of `file`"]);
+}
+
 #[test]
 fn writes_that_are_not_due() {
     for width in [1, 2, 4, 8] {

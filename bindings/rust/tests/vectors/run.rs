@@ -26,7 +26,8 @@ pub fn every_block(file: &str, text: &str) -> (usize, Vec<String>) {
 fn run(file: &str, mut block: Block) -> Result<(), Fault> {
     let call = CALLS.iter().find(|call| call.name == block.name);
     let call = call.ok_or_else(|| Fault::new(block.line, format!("no call `{}` is known", block.name)))?;
-    block.inputs.extend(left_out::lines(file, call, &block));
+    block.inputs.extend(left_out::inputs(file, call, &block));
+    block.outputs.extend(left_out::outputs(file, call, &block));
     same_keys(&block, &block.inputs, call.inputs)?;
     same_keys(&block, &block.outputs, if block.refusal == 0 { call.outputs } else { "" })?;
     for pattern in PATTERNS {
@@ -67,7 +68,8 @@ fn same_keys(block: &Block, lines: &[Line], keys: &str) -> Result<(), Fault> {
     }
 }
 
-/// The inputs as the call takes them, and memory for the numbers that it is lent.
+/// The inputs as the call takes them, and memory for the numbers that it is lent. Where a buffer is read and another of the same key is
+/// filled, the one that is read has `given-` before its key.
 fn given(call: &Call, inputs: &[Line], pattern: u8) -> Result<Given, Fault> {
     let mut given = Given { numbers: BTreeMap::new(), lent: BTreeMap::new() };
     for line in inputs {
@@ -77,7 +79,9 @@ fn given(call: &Call, inputs: &[Line], pattern: u8) -> Result<Given, Fault> {
         } else if NUMBERS.contains(&line.key) {
             given.numbers.insert(line.key.to_string(), one_number(line)?);
         } else {
-            given.lent.insert(line.key.to_string(), Lent::holding(fitting(line)?, width(line.key), pattern));
+            let filled = inputs.iter().any(|other| other.key.strip_suffix("-length") == Some(line.key));
+            let key = if filled { format!("given-{}", line.key) } else { line.key.to_string() };
+            given.lent.insert(key, Lent::holding(fitting(line)?, width(line.key), pattern));
         }
     }
     for (key, _) in outputs(call).filter(|(key, _)| NUMBERS.contains(key)) {

@@ -1,21 +1,25 @@
-//! The survey file: a writer, and a reader that goes through the bytes record by record.
-use super::refusals;
+//! The survey file: a writer, a reader that goes through the bytes record by record, and a converter that reads and writes.
 use super::survey::{ranked, Town};
+use super::{refusals, NEW_FORM, OLD_FORM};
 
-/// A town and the kind of its plan.
-pub type Filed = (Town, usize);
+/// A town, the kind of its plan, and the form of its file.
+pub type Filed = (Town, usize, usize);
 
 fn word(number: usize) -> [u8; 2] {
     (number as u16).to_le_bytes()
 }
 
-pub fn write(town: &Town, kind: usize) -> Vec<u8> {
-    let mut file = b"TN".to_vec();
+pub fn write(town: &Town, kind: usize, form: usize) -> Vec<u8> {
+    let mut file = if form == OLD_FORM { b"TN" } else { b"TW" }.to_vec();
     file.extend(word(town.n));
     file.extend([town.m as u8, town.k as u8, kind as u8]);
     file.extend(b"SC");
     for &score in &town.scores {
         file.extend(score.to_le_bytes());
+    }
+    if form != OLD_FORM {
+        file.extend(b"HW");
+        file.extend(&town.weights);
     }
     for street in 0..town.n {
         let list = ranked(town.row(street));
@@ -53,7 +57,11 @@ fn number(bytes: &[u8]) -> usize {
 
 pub fn read(file: &[u8]) -> Result<Filed, u8> {
     let mut rest = Rest(file);
-    rest.mark(b"TN")?;
+    let form = match rest.take(2)? {
+        b"TN" => OLD_FORM,
+        b"TW" => NEW_FORM,
+        _ => return Err(13),
+    };
     let fixed = rest.take(5)?;
     let (n, m, k, kind) = (number(fixed), usize::from(fixed[2]), usize::from(fixed[3]), usize::from(fixed[4]));
     refusals::streets(n)?;
@@ -63,6 +71,12 @@ pub fn read(file: &[u8]) -> Result<Filed, u8> {
     rest.mark(b"SC")?;
     let scores: Vec<u16> = rest.take(2 * m)?.chunks(2).map(|bytes| number(bytes) as u16).collect();
     refusals::scores(&scores)?;
+    let mut weights = vec![1; n];
+    if form == NEW_FORM {
+        rest.mark(b"HW")?;
+        weights = rest.take(n)?.to_vec();
+        refusals::weights(&weights)?;
+    }
     let mut rows = Vec::new();
     for street in 1..=n {
         let mut row = list(&mut rest, street, m)?;
@@ -73,7 +87,13 @@ pub fn read(file: &[u8]) -> Result<Filed, u8> {
     if !rest.0.is_empty() {
         return Err(16);
     }
-    Ok((Town { n, m, k, scores, weights: vec![1; n], rows }, kind))
+    Ok((Town { n, m, k, scores, weights, rows }, kind, form))
+}
+
+pub fn convert(file: &[u8], form: usize) -> Result<Vec<u8>, u8> {
+    let (town, kind, _) = read(file)?;
+    refusals::lost(form, &town.weights)?;
+    Ok(write(&town, kind, form))
 }
 
 /// One street's record.

@@ -12,3 +12,7 @@ pub mod survey;
 /// The two kinds of plan.
 pub const FREE: usize = 0;
 pub const BALANCED: usize = 1;
+
+/// The two forms of a file.
+pub const OLD_FORM: usize = 0;
+pub const NEW_FORM: usize = 1;

@@ -1,6 +1,6 @@
 //! 'Turned down': what each call tries, in document 01's order.
 use super::survey::Town;
-use super::{BALANCED, FREE};
+use super::{BALANCED, FREE, OLD_FORM};
 
 pub type Tried = Result<(), u8>;
 
@@ -138,7 +138,12 @@ pub fn floor(town: &Town) -> Tried {
     survey(town, town.k, || share(town.n, town.k))
 }
 
-/// The writer is given no weights.
-pub fn write(town: &Town, sort: usize) -> Tried {
-    survey(&town.unweighted(), town.k, || kind(sort))
+/// A file of the old form has no weights to keep.
+pub fn lost(form: usize, weights: &[u8]) -> Tried {
+    refuse(25, form == OLD_FORM && weights.iter().any(|&weight| weight != 1))
+}
+
+pub fn write(town: &Town, sort: usize, form: usize) -> Tried {
+    survey(town, town.k, || kind(sort))?;
+    lost(form, &town.weights)
 }

@@ -34,7 +34,7 @@ impl Town {
         &self.rows[street * self.m..(street + 1) * self.m]
     }
 
-    /// The town as a survey file has it: every street counts once. A number of streets that is too large is refused for itself.
+    /// The town with streets that all count alike. A number of streets that is too large is refused for itself.
     pub fn unweighted(&self) -> Town {
         Town { weights: vec![1; self.n.min(400)], ..self.clone() }
     }
