@@ -3,14 +3,14 @@
 #include "../include/planner.h"
 #include "peer.hpp"
 
-// The plan of a kind, without kept sites. A refusal is a number of 2^32 or more, so it agrees with no total of the peer's.
+// The plan of a kind. A refusal is a number of 2^32 or more, so it agrees with no total of the peer's.
 inline Plan ourPlan(std::size_t kind, const Town& town, std::size_t k) {
     Plan plan;
     plan.sites.resize(k);
     plan.division.resize(town.n);
     plan.total = planner_plan(town.n, town.m, k, kind, town.scores.data(), town.scores.size(), town.weights.data(), town.weights.size(),
-                              town.rows.data(), town.rows.size(), nullptr, 0, plan.division.data(), plan.division.size(),
-                              plan.sites.data(), plan.sites.size());
+                              town.rows.data(), town.rows.size(), plan.division.data(), plan.division.size(), plan.sites.data(),
+                              plan.sites.size());
     return plan;
 }
 

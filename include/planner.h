@@ -26,10 +26,6 @@
  *   equal to its limit fits. An unserved street loads no site, but its numbers are tried like the others. A caller without loads
  *   lends zeros for the streets and PLANNER_MOST_LOAD for each site.
  *
- * KEPT SITES. A plan is also given the sites that are built already and are to stay. A free plan starts from them, in their order,
- * and its rounds add the rest; where k are kept there is no round, and the plan is the kept sites. They are at most k, none is named
- * twice, and a balanced plan takes none. A caller without kept sites lends a list of length 0, and its pointer may be null.
- *
  * SURVEY FILES hold a survey with its k and its kind of plan, in one of two forms. A file of the old form opens with the mark TN
  * and has no weights: each is 1. One of the new form opens with TW and has the weights in a record HW between the scores (SC) and
  * the streets (ST); in all else the two are alike. The reader takes both and says which form it read. The writer and the converter
@@ -49,10 +45,9 @@
  * planner_total(answer), 0 where it is refused. A refused call leaves every buffer and every number it was lent as it was.
  *
  * REFUSALS. A call tries those numbers that concern what it is given, in this order: 1 to 6, then 8 over the scores, 24 over the
- * weights, then the rows by street and byte, where a byte is tried for 9, 10, 11; then 21, 17, 20, 26, 18, then site by site 22
- * before 23, then 19, then 25, and 7 last. The order of the reader and the converter stands there. Where a call is given a list of
- * sites, 3 and 5 are about the list's length. A list of kept sites may have any length: 3, 5 and 6 are not about it, and one that is
- * too long is refused with 17, 20 or 26.
+ * weights, then the rows by street and byte, where a byte is tried for 9, 10, 11; then 21, 17, 20, 18, then site by site 22 before
+ * 23, then 19, then 25, and 7 last. The order of the reader and the converter stands there. Where a call is given a list of sites,
+ * 3 and 5 are about the list's length.
  *
  * A call uses no heap and keeps nothing from one call to the next: any number of threads may call at once. The stack that it needs
  * is named below, call by call.
@@ -68,7 +63,7 @@ extern "C" {
 #endif
 
 /* The year and the number of the last request that is in, 00 for the base. planner_version() gives that of the library linked. */
-#define PLANNER_VERSION 202607
+#define PLANNER_VERSION 202606
 
 /* The greatest sizes, score and weight, and the greatest load of a street, which is also the greatest limit of a site. */
 #define PLANNER_MAX_STREETS 400
@@ -154,9 +149,7 @@ extern "C" {
     /* the survey team */ \
     REFUSAL(24, WEIGHT, "a household weight outside 1 to 99: correct the weight") \
     /* the calling program */ \
-    REFUSAL(25, LOST_WEIGHT, "a weight other than 1, which a file of the old form would lose: make one of the new form") \
-    /* the planning office */ \
-    REFUSAL(26, KEPT, "more kept sites than K, or any in a balanced plan: keep fewer, or make a free plan")
+    REFUSAL(25, LOST_WEIGHT, "a weight other than 1, which a file of the old form would lose: make one of the new form")
 
 /* PLANNER_REFUSED_STREETS is 1, and so on. */
 enum planner_refusal_number {
@@ -166,7 +159,7 @@ enum planner_refusal_number {
 #undef PLANNER_NUMBERED
 };
 
-/* The refusal's number, 1 to 26; 0 where the call is accepted. */
+/* The refusal's number, 1 to 25; 0 where the call is accepted. */
 static inline uint32_t planner_refusal(uint64_t answer) {
     uint64_t upper = answer >> 32;
     return upper & 0xffffffffu;
@@ -286,25 +279,23 @@ uint64_t planner_balanced_division(size_t n, size_t m,
                                    uint8_t *PLANNER_RESTRICT division, size_t division_len) PLANNER_MUST_USE;
 
 /*
- * The plan of a kind. The free plan (Chamberlin and Courant's rule, greedy): it starts from the kept sites, in their order, and
- * rounds add the rest until there are k, each the site that raises the total most, the lowest number on a tie; then each street goes
- * to the chosen site that stands best in its list, and to site 0 if it has ranked none. The balanced plan (Monroe's rule, greedy):
- * k sites chosen in rounds, each of which deals its site n / k streets, the first n % k rounds one more, and of the streets left
- * those that give the site the highest counted score, then the best place, then the lowest number; then the best division over
- * these sites in these shares, as planner_balanced_division makes it.
+ * The plan of a kind. The free plan (Chamberlin and Courant's rule, greedy): k rounds, each of which adds the site that raises the
+ * total most, the lowest number on a tie; then each street goes to the chosen site that stands best in its list, and to site 0 if
+ * it has ranked none. The balanced plan (Monroe's rule, greedy): k sites chosen in rounds, each of which deals its site n / k
+ * streets, the first n % k rounds one more, and of the streets left those that give the site the highest counted score, then the
+ * best place, then the lowest number; then the best division over these sites in these shares, as planner_balanced_division makes
+ * it.
  *   kind      PLANNER_FREE or PLANNER_BALANCED
  *   scores    m numbers, read      weights  n bytes, read      rows  n * m bytes, read
- *   kept      any number of bytes, read: the kept sites, each once, at most k, and none in a balanced plan
  *   division  n bytes, written: the site of each street
- *   chosen    k bytes, written: the sites in order of choice, the kept ones first
+ *   chosen    k bytes, written: the sites in order of choice
  * Answer: the total of the chosen sites in a free plan, the division's total in a balanced one.
- * Refuses with 1, 2, 3, 4, 6, 8, 24, 9, 10, 11, 17, 20 or 26; a balanced plan also with 5, between 4 and 6.
+ * Refuses with 1, 2, 3, 4, 6, 8, 24, 9, 10 or 11; a balanced plan also with 5, between 4 and 6.
  */
 uint64_t planner_plan(size_t n, size_t m, size_t k, size_t kind,
                       const uint16_t *scores, size_t scores_len,
                       const uint8_t *weights, size_t weights_len,
                       const uint8_t *rows, size_t rows_len,
-                      const uint8_t *kept, size_t kept_len,
                       uint8_t *PLANNER_RESTRICT division, size_t division_len,
                       uint8_t *PLANNER_RESTRICT chosen, size_t chosen_len) PLANNER_MUST_USE;
 

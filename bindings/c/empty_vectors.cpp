@@ -24,24 +24,13 @@ static const Scores no_scores;
 static const Bytes none;
 static const Loads loads(1, 5), no_loads;
 
-// The plan of a kind with these kept sites, into this division and one chosen site.
-static uint64_t plan(std::size_t kind, const Bytes &kept, Bytes &division, Bytes &chosen) {
-    return planner_plan(1, 1, 1, kind, scores.data(), scores.size(), weights.data(), weights.size(), rows.data(), rows.size(),
-                        kept.data(), kept.size(), division.data(), division.size(), chosen.data(), chosen.size());
-}
-
 static void plans() {
     Bytes division(1), chosen(1), empty;
-    uint64_t answer = plan(PLANNER_FREE, none, division, chosen);
+    uint64_t answer = planner_plan(1, 1, 1, PLANNER_FREE, scores.data(), scores.size(), weights.data(), weights.size(), rows.data(), rows.size(),
+                                   division.data(), division.size(), chosen.data(), chosen.size());
     expect(planner_refusal(answer) == PLANNER_ACCEPTED && planner_total(answer) == 5 && division[0] == 1 && chosen[0] == 1, "a plan");
-    chosen[0] = 0;
-    answer = plan(PLANNER_FREE, sites, division, chosen);
-    expect(planner_refusal(answer) == PLANNER_ACCEPTED && planner_total(answer) == 5 && chosen[0] == 1, "a plan of a kept site");
-    answer = plan(PLANNER_BALANCED, none, division, chosen);
-    expect(planner_refusal(answer) == PLANNER_ACCEPTED && planner_total(answer) == 5, "a balanced plan without kept sites");
-    answer = plan(PLANNER_BALANCED, sites, division, chosen);
-    expect(planner_refusal(answer) == PLANNER_REFUSED_KEPT, "a balanced plan with a kept site");
-    answer = plan(PLANNER_BALANCED, none, empty, chosen);
+    answer = planner_plan(1, 1, 1, PLANNER_BALANCED, scores.data(), scores.size(), weights.data(), weights.size(), rows.data(), rows.size(),
+                          empty.data(), empty.size(), chosen.data(), chosen.size());
     expect(planner_refusal(answer) == PLANNER_REFUSED_BUFFER_LENGTH, "a plan into an empty division");
     answer = planner_balanced_division(1, 1, scores.data(), scores.size(), weights.data(), weights.size(), rows.data(), rows.size(),
                                        none.data(), none.size(), division.data(), division.size());

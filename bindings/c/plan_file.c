@@ -72,8 +72,7 @@ int main(int argc, char **argv) {
     uint64_t answer = planner_read_file(file, length, &n, &m, &k, &kind, &form, scores, PLANNER_SCORES_LENGTH,
                                         weights, PLANNER_WEIGHTS_LENGTH, rows, PLANNER_ROWS_LENGTH);
     if (planner_refusal(answer) == PLANNER_ACCEPTED) {
-        /* a survey file names no sites that are built already, so none are kept */
-        answer = planner_plan(n, m, k, kind, scores, m, weights, n, rows, n * m, NULL, 0, division, n, chosen, k);
+        answer = planner_plan(n, m, k, kind, scores, m, weights, n, rows, n * m, division, n, chosen, k);
     }
     int status = 0;
     if (planner_refusal(answer) == PLANNER_ACCEPTED) {

@@ -131,13 +131,12 @@ static size_t test_accepted(const struct call *call) {
     size_t most = 0;
     for (size_t i = 0; i < TOWNS; i++) {
         const struct town *town = &towns[i];
-        char on[128];
-        if ((kind_of(call) == PLANNER_BALANCED && town->n < town->k) || (town->kept > 0 && !takes_kept(call))) {
+        char on[96];
+        if (kind_of(call) == PLANNER_BALANCED && town->n < town->k) {
             continue;
         }
         make_town(town->n, town->m, town->k, kind_of(call), town->lists, town->top);
-        keep(town->kept);
-        snprintf(on, sizeof on, "town %zu (%zu streets, %zu sites, K %zu, weights to %zu, %zu kept)", i, n, m, k, town->top, town->kept);
+        snprintf(on, sizeof on, "town %zu (%zu streets, %zu sites, K %zu, weights to %zu)", i, n, m, k, town->top);
         test(call, NULL, call->promise, run_measured, on);
         most = larger(most, told->depth);
         if (i == 0) {

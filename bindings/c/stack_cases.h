@@ -6,21 +6,18 @@
 
 #include "planner.h"
 
-/* A list of kept sites may have any length. So long a one would show if a call's stack grew with it. */
-enum { LONGEST_KEPT = 100000 };
-
 /* What the calls are lent, with one element of room behind each buffer. All of it is static: a runner's own frame stays small. */
 static size_t n, m, k, kind, form, wanted;
 static uint16_t scores[PLANNER_SCORES_LENGTH + 1];
 static uint8_t weights[PLANNER_MAX_STREETS + 1], weight, rows[PLANNER_ROWS_LENGTH + 1], row[PLANNER_MAX_SITES + 1];
-static uint8_t sites[PLANNER_MAX_SITES + 1], site, kept[LONGEST_KEPT];
+static uint8_t sites[PLANNER_MAX_SITES + 1], site;
 static uint8_t hand[PLANNER_MAX_STREETS + 1];
 static uint32_t claimed;
 static uint32_t kilograms[PLANNER_MAX_STREETS + 1], litres[PLANNER_MAX_STREETS + 1];
 static uint32_t kilogram_limits[PLANNER_MAX_SITES + 1], litre_limits[PLANNER_MAX_SITES + 1];
 static uint8_t division[PLANNER_MAX_STREETS + 1], chosen[PLANNER_MAX_SITES + 1];
 static uint8_t file[PLANNER_FILE_LENGTH + 1], written[PLANNER_FILE_LENGTH];
-static size_t scores_len, weights_len, rows_len, row_len, sites_len, kept_len, division_len, chosen_len, file_len, written_len, converted_len;
+static size_t scores_len, weights_len, rows_len, row_len, sites_len, division_len, chosen_len, file_len, written_len, converted_len;
 static size_t kilograms_len, litres_len, kilogram_limits_len, litre_limits_len;
 
 /* What the reader fills. */
@@ -56,8 +53,7 @@ static void run_balanced_division(void) {
 }
 
 static void run_plan(void) {
-    answer = planner_plan(n, m, k, kind, scores, scores_len, weights, weights_len, rows, rows_len, kept, kept_len, division, division_len,
-                          chosen, chosen_len);
+    answer = planner_plan(n, m, k, kind, scores, scores_len, weights, weights_len, rows, rows_len, division, division_len, chosen, chosen_len);
 }
 
 static void run_floor(void) {
@@ -82,10 +78,8 @@ static void run_convert_file(void) {
     answer = planner_convert_file(file, file_len, wanted, written, converted_len);
 }
 
-/* A set of refusals, by their numbers, and six members more: any kept site in a balanced plan, and the buffers of some calls. */
+/* A set of refusals, by their numbers, and four members more for the buffers of some calls. */
 #define NUMBER(number) (UINT64_C(1) << (number))
-#define KEPT_IN_BALANCED NUMBER(58)
-#define LENT_KEPT NUMBER(59)
 #define LENT_WEIGHTS NUMBER(60)
 #define LENT_LOADS NUMBER(61)
 #define LENT_DIVISION NUMBER(62)
@@ -93,7 +87,7 @@ static void run_convert_file(void) {
 #define ROW (NUMBER(2) | NUMBER(6) | NUMBER(8) | NUMBER(9) | NUMBER(10) | NUMBER(11))
 #define SURVEY (ROW | NUMBER(1) | NUMBER(3) | LENT_WEIGHTS | NUMBER(24))
 #define LIST (SURVEY | NUMBER(17) | NUMBER(20))
-#define PLAN (SURVEY | NUMBER(4) | LENT_DIVISION | LENT_CHOSEN | LENT_KEPT | NUMBER(17) | NUMBER(20) | NUMBER(26))
+#define PLAN (SURVEY | NUMBER(4) | LENT_DIVISION | LENT_CHOSEN)
 #define LOADS (LENT_LOADS | NUMBER(21) | NUMBER(22) | NUMBER(23))
 #define HAND (SURVEY | NUMBER(4) | LENT_DIVISION | LOADS | NUMBER(17) | NUMBER(18) | NUMBER(19))
 #define WRITTEN (NUMBER(25) | NUMBER(7))
@@ -113,7 +107,7 @@ static const struct call {
     {"FREE_DIVISION", run_free_division, PLANNER_STACK_FREE_DIVISION, LIST | LENT_DIVISION},
     {"BALANCED_DIVISION", run_balanced_division, PLANNER_STACK_BALANCED_DIVISION, LIST | LENT_DIVISION | NUMBER(5)},
     {"FREE_PLAN", run_plan, PLANNER_STACK_FREE_PLAN, PLAN},
-    {"BALANCED_PLAN", run_plan, PLANNER_STACK_BALANCED_PLAN, PLAN | NUMBER(5) | KEPT_IN_BALANCED},
+    {"BALANCED_PLAN", run_plan, PLANNER_STACK_BALANCED_PLAN, PLAN | NUMBER(5)},
     {"FLOOR", run_floor, PLANNER_STACK_FLOOR, SURVEY | NUMBER(5)},
     {"FREE_HAND_PLAN", run_hand_plan, PLANNER_STACK_FREE_HAND_PLAN, HAND},
     {"BALANCED_HAND_PLAN", run_hand_plan, PLANNER_STACK_BALANCED_HAND_PLAN, HAND | NUMBER(5)},
@@ -126,11 +120,6 @@ enum { CALLS = sizeof calls / sizeof calls[0] };
 /* The kind that a call is given: balanced where it refuses more sites than streets, which no free plan does. */
 static size_t kind_of(const struct call *call) {
     return call->refuses & NUMBER(PLANNER_REFUSED_SHARE) ? PLANNER_BALANCED : PLANNER_FREE;
-}
-
-/* Whether a call takes kept sites, as the free plan alone does. */
-static int takes_kept(const struct call *call) {
-    return (call->refuses & LENT_KEPT) != 0 && kind_of(call) == PLANNER_FREE;
 }
 
 /* A site for each place of a street's list: all of them by turns, the same for every street, three names, or none. */
@@ -148,14 +137,6 @@ static void set_lengths(void) {
     scores_len = m, weights_len = n, rows_len = n * m, row_len = m, sites_len = k, division_len = n, chosen_len = k;
     kilograms_len = litres_len = n, kilogram_limits_len = litre_limits_len = m;
     read_scores_len = PLANNER_SCORES_LENGTH, read_weights_len = PLANNER_WEIGHTS_LENGTH, read_rows_len = PLANNER_ROWS_LENGTH;
-}
-
-/* Keeps so many of the sites, from the highest number down. */
-static void keep(size_t count) {
-    kept_len = count;
-    for (size_t i = 0; i < count; i++) {
-        kept[i] = (uint8_t)(m - i);
-    }
 }
 
 /* Gives the streets of the hand plan loads, and each site the limits that these just reach. */
@@ -181,11 +162,10 @@ static void make_file(size_t top) {
 }
 
 /* Makes a town and what goes with it: a kind, a list of sites, a hand plan with its total and loads, and the survey file. The
- * weights of the streets run from 1 to the top one, again and again. No site is kept. */
+ * weights of the streets run from 1 to the top one, again and again. */
 static void make_town(size_t streets, size_t all, size_t choose, size_t of_kind, enum lists lists, size_t top) {
     n = streets, m = all, k = choose, kind = of_kind;
     set_lengths();
-    keep(0);
     for (size_t place = 0; place < m; place++) {
         scores[place] = (uint16_t)(PLANNER_TOP_SCORE - 15 * place);
     }
@@ -209,50 +189,38 @@ static void make_town(size_t streets, size_t all, size_t choose, size_t of_kind,
     make_file(top);
 }
 
-/* The first town is the one that the faults are put into. With weights that are all 1 the rounds sort by smaller keys. Towns with
- * kept sites are for the calls that take them. */
+/* The first town is the one that the faults are put into. With weights that are all 1 the rounds sort by smaller keys. */
 static const struct town {
     size_t n, m, k;
     enum lists lists;
-    size_t top, kept;
+    size_t top;
 } towns[] = {
-    {400, 64, 50, VARIED, 99, 0},
-    {400, 64, 8, VARIED, 99, 0},
-    {400, 64, 1, VARIED, 99, 0},
-    {400, 64, 64, VARIED, 99, 0},
-    {400, 64, 33, VARIED, 99, 0},
-    {400, 64, 7, VARIED, 99, 0},
-    {65, 64, 64, VARIED, 99, 0},
-    {64, 64, 64, VARIED, 99, 0},
-    {63, 64, 64, VARIED, 99, 0},
-    {400, 64, 50, ALIKE, 99, 0},
-    {400, 64, 8, ALIKE, 99, 0},
-    {400, 64, 33, ALIKE, 99, 0},
-    {400, 64, 50, THREE_NAMES, 99, 0},
-    {400, 64, 8, THREE_NAMES, 99, 0},
-    {400, 64, 33, THREE_NAMES, 99, 0},
-    {400, 64, 50, EMPTY, 99, 0},
-    {6, 4, 3, VARIED, 99, 0},
-    {10, 4, 3, VARIED, 99, 0},
-    {1, 1, 1, VARIED, 99, 0},
-    {400, 64, 50, VARIED, 1, 0},
-    {400, 64, 8, VARIED, 1, 0},
-    {400, 64, 33, VARIED, 1, 0},
-    {400, 64, 50, ALIKE, 1, 0},
-    {400, 64, 50, THREE_NAMES, 1, 0},
-    {400, 64, 50, EMPTY, 1, 0},
-    {400, 64, 50, VARIED, 2, 0},
-    {400, 64, 50, ALIKE, 40, 0},
-    {400, 64, 50, VARIED, 99, 25},
-    {400, 64, 50, VARIED, 99, 50},
-    {400, 64, 64, VARIED, 99, 1},
-    {400, 64, 64, VARIED, 99, 63},
-    {400, 64, 64, VARIED, 99, 64},
-    {63, 64, 64, VARIED, 99, 64},
-    {400, 64, 33, ALIKE, 99, 20},
-    {400, 64, 50, THREE_NAMES, 99, 49},
-    {400, 64, 50, EMPTY, 99, 25},
-    {1, 1, 1, VARIED, 99, 1},
-    {400, 64, 50, VARIED, 1, 25},
+    {400, 64, 50, VARIED, 99},
+    {400, 64, 8, VARIED, 99},
+    {400, 64, 1, VARIED, 99},
+    {400, 64, 64, VARIED, 99},
+    {400, 64, 33, VARIED, 99},
+    {400, 64, 7, VARIED, 99},
+    {65, 64, 64, VARIED, 99},
+    {64, 64, 64, VARIED, 99},
+    {63, 64, 64, VARIED, 99},
+    {400, 64, 50, ALIKE, 99},
+    {400, 64, 8, ALIKE, 99},
+    {400, 64, 33, ALIKE, 99},
+    {400, 64, 50, THREE_NAMES, 99},
+    {400, 64, 8, THREE_NAMES, 99},
+    {400, 64, 33, THREE_NAMES, 99},
+    {400, 64, 50, EMPTY, 99},
+    {6, 4, 3, VARIED, 99},
+    {10, 4, 3, VARIED, 99},
+    {1, 1, 1, VARIED, 99},
+    {400, 64, 50, VARIED, 1},
+    {400, 64, 8, VARIED, 1},
+    {400, 64, 33, VARIED, 1},
+    {400, 64, 50, ALIKE, 1},
+    {400, 64, 50, THREE_NAMES, 1},
+    {400, 64, 50, EMPTY, 1},
+    {400, 64, 50, VARIED, 2},
+    {400, 64, 50, ALIKE, 40},
 };
 enum { TOWNS = sizeof towns / sizeof towns[0] };

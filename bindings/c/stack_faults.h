@@ -157,8 +157,7 @@ static void byte_after_end(void) {
 }
 
 static void last_site_outside(void) {
-    keep(k);
-    site = sites[k - 1] = kept[k - 1] = hand[n - 1] = 65;
+    site = sites[k - 1] = hand[n - 1] = 65;
 }
 
 static void one_site_more(void) {
@@ -170,26 +169,7 @@ static void claimed_more(void) {
 }
 
 static void last_listed_twice(void) {
-    keep(k);
-    sites[k - 1] = sites[0], kept[k - 1] = kept[0];
-}
-
-static void one_kept_again_and_again(void) {
-    kept_len = LONGEST_KEPT;
-    memset(kept, 1, kept_len);
-}
-
-static void last_kept_outside(void) {
-    one_kept_again_and_again();
-    kept[kept_len - 1] = 0;
-}
-
-static void one_more_kept(void) {
-    keep(k + 1);
-}
-
-static void one_kept(void) {
-    keep(1);
+    sites[k - 1] = sites[0];
 }
 
 static void first_load_high(void) {
@@ -250,14 +230,10 @@ static const struct fault {
     {"last street out of turn", 14, NUMBER(14), last_street_wrong},
     {"last list of 65", 15, NUMBER(15), last_list_long},
     {"a byte after EN", 16, NUMBER(16), byte_after_end},
-    {"last site of the list, of the kept ones or of the plan 65", 17, NUMBER(17), last_site_outside},
-    {"last of 100,000 kept sites 0", 17, LENT_KEPT, last_kept_outside},
+    {"last site of the list or plan 65", 17, NUMBER(17), last_site_outside},
     {"a hand plan of 51 sites", 18, NUMBER(18), one_site_more},
     {"claimed total one more", 19, NUMBER(19), claimed_more},
-    {"last of the list or of the kept sites like the first", 20, NUMBER(20), last_listed_twice},
-    {"100,000 kept sites, all of them 1", 20, LENT_KEPT, one_kept_again_and_again},
-    {"51 kept sites", 26, NUMBER(26), one_more_kept},
-    {"a kept site in a balanced plan", 26, KEPT_IN_BALANCED, one_kept},
+    {"last of the list like the first", 20, NUMBER(20), last_listed_twice},
     {"first load above 1,000,000", 21, NUMBER(21), first_load_high},
     {"last limit above 1,000,000", 21, NUMBER(21), last_limit_high},
     {"a kilogram too many at the last site used", 22, NUMBER(22), last_kilograms_over},

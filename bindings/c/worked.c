@@ -1,6 +1,6 @@
 /*
- * Every function of include/planner.h from C, but for those on survey files (files.c), on the worked surveys P1, P7 and P8. No site
- * is kept in its plans (kept.c). Prints what differs and ends with 1, or ends with 0.
+ * Every function of include/planner.h from C, but for those on survey files (files.c), on the worked surveys P1, P7 and P8. Prints
+ * what differs and ends with 1, or ends with 0.
  */
 #include "expect.h"
 
@@ -20,12 +20,9 @@ static const uint8_t sites[2] = {1, 2};
 static const uint32_t nothing[4] = {0}, most[3] = {PLANNER_MOST_LOAD, PLANNER_MOST_LOAD, PLANNER_MOST_LOAD};
 #define NO_LOADS(streets) nothing, streets, nothing, streets, most, 3, most, 3
 
-/* What stands for kept sites where there are none. */
-#define NO_KEPT NULL, 0
-
 static void plans(size_t kind) {
     uint8_t division[4] = {0}, chosen[2] = {0};
-    expect_of(kind, planner_plan(4, 3, 2, kind, scores, 3, ones, 4, rows, 12, NO_KEPT, division, 4, chosen, 2) == 7, "the plan's total");
+    expect_of(kind, planner_plan(4, 3, 2, kind, scores, 3, ones, 4, rows, 12, division, 4, chosen, 2) == 7, "the plan's total");
     expect_of(kind, !memcmp(division, plan, 4) && !memcmp(chosen, sites, 2), "the plan");
     expect_of(kind, planner_hand_plan(4, 3, 2, kind, scores, 3, ones, 4, rows, 12, plan, 4, 7, NO_LOADS(4)) == 7, "the hand plan");
 }
@@ -35,7 +32,7 @@ static void kinds_apart(size_t kind) {
     static const uint16_t seven[1] = {7};
     static const uint8_t empty[1] = {0}, unserved[1] = {0};
     uint8_t division[1] = {8}, chosen[1] = {8};
-    expect_of(kind, planner_plan(1, 1, 1, kind, seven, 1, ones, 1, empty, 1, NO_KEPT, division, 1, chosen, 1) == 0, "P8's total");
+    expect_of(kind, planner_plan(1, 1, 1, kind, seven, 1, ones, 1, empty, 1, division, 1, chosen, 1) == 0, "P8's total");
     expect_of(kind, division[0] == (kind == PLANNER_FREE ? 0 : 1) && chosen[0] == 1, "P8's plan");
     uint64_t answer = planner_hand_plan(1, 1, 1, kind, seven, 1, ones, 1, empty, 1, unserved, 1, 0, nothing, 1, nothing, 1, most, 1, most, 1);
     expect_of(kind, planner_refusal(answer) == (kind == PLANNER_FREE ? 0 : 17), "P8's street unserved by hand");
@@ -62,7 +59,7 @@ static void uneven_shares(void) {
     static const uint8_t all[3] = {1, 2, 3}, two_first[3] = {2, 1, 3}, three_first[3] = {3, 1, 2};
     static const uint8_t one_larger[4] = {1, 1, 2, 3}, two_larger[4] = {2, 1, 2, 3}, three_larger[4] = {1, 3, 2, 3};
     uint8_t division[4] = {0}, chosen[3] = {0};
-    expect(planner_plan(4, 3, 3, PLANNER_BALANCED, scores, 3, ones, 4, rows, 12, NO_KEPT, division, 4, chosen, 3) == 8, "P7's total, balanced");
+    expect(planner_plan(4, 3, 3, PLANNER_BALANCED, scores, 3, ones, 4, rows, 12, division, 4, chosen, 3) == 8, "P7's total, balanced");
     expect(!memcmp(division, one_larger, 4) && !memcmp(chosen, all, 3), "P7's balanced plan");
     expect_division(all, one_larger, 8, "the balanced division with site 1 first");
     expect_division(two_first, two_larger, 7, "the balanced division with site 2 first");
@@ -142,20 +139,17 @@ static const uint8_t eights[4] = {8, 8, 8, 8};
 static void more_sites_than_streets(void) {
     static const uint8_t all[3] = {1, 2, 3}, hand[2] = {1, 3};
     uint8_t division[2] = {8, 8}, chosen[3] = {8, 8, 8};
-    expect_refusal(planner_plan(2, 3, 3, PLANNER_BALANCED, scores, 3, ones, 2, rows, 6, NO_KEPT, division, 2, chosen, 3), 5,
+    expect_refusal(planner_plan(2, 3, 3, PLANNER_BALANCED, scores, 3, ones, 2, rows, 6, division, 2, chosen, 3), 5,
                    "a balanced plan of two streets with K 3");
-    expect_refusal(planner_plan(2, 3, 3, PLANNER_BALANCED, scores, 3, ones, 2, rows, 6, NO_KEPT, division, 1, chosen, 3), 5,
-                   "the same into one byte");
-    expect_refusal(planner_plan(2, 3, 3, PLANNER_FREE, scores, 3, ones, 2, rows, 6, NO_KEPT, division, 1, chosen, 3), 6,
-                   "the free plan into one byte");
+    expect_refusal(planner_plan(2, 3, 3, PLANNER_BALANCED, scores, 3, ones, 2, rows, 6, division, 1, chosen, 3), 5, "the same into one byte");
+    expect_refusal(planner_plan(2, 3, 3, PLANNER_FREE, scores, 3, ones, 2, rows, 6, division, 1, chosen, 3), 6, "the free plan into one byte");
     expect_refusal(planner_balanced_division(2, 3, scores, 3, ones, 2, rows, 6, all, 3, division, 2), 5, "two streets divided over three sites");
     expect(!memcmp(division, eights, 2) && !memcmp(chosen, eights, 3), "the buffers after 5 and 6");
     expect_refusal(planner_floor(2, 3, 3, scores, 3, ones, 2, rows, 6), PLANNER_REFUSED_SHARE, "the floor of two streets with K 3");
     expect_refusal(planner_hand_plan(2, 3, 3, PLANNER_BALANCED, scores, 3, ones, 2, rows, 6, hand, 2, 3, NO_LOADS(2)), 5,
                    "a balanced hand plan of two streets with K 3");
     expect(planner_check_survey(2, 3, 3, scores, 3, ones, 2, rows, 6) == 0, "the check of two streets with K 3");
-    expect(planner_plan(2, 3, 3, PLANNER_FREE, scores, 3, ones, 2, rows, 6, NO_KEPT, division, 2, chosen, 3) == 4,
-           "the free plan of two streets with K 3");
+    expect(planner_plan(2, 3, 3, PLANNER_FREE, scores, 3, ones, 2, rows, 6, division, 2, chosen, 3) == 4, "the free plan of two streets with K 3");
     expect(planner_hand_plan(2, 3, 3, PLANNER_FREE, scores, 3, ones, 2, rows, 6, hand, 2, 3, NO_LOADS(2)) == 3,
            "a free hand plan of two streets with K 3");
 }
@@ -164,14 +158,11 @@ static void more_sites_than_streets(void) {
 static void plan_of_another_kind(size_t kind) {
     uint8_t division[4], chosen[4];
     memcpy(division, eights, 4), memcpy(chosen, eights, 4);
-    expect_of(kind, refused(planner_plan(4, 3, 2, kind, scores, 3, ones, 4, rows, 12, NO_KEPT, division, 4, chosen, 2), PLANNER_REFUSED_KIND),
-              "a plan");
-    expect_of(kind, refused(planner_plan(4, 3, 4, kind, scores, 3, ones, 4, rows, 12, NO_KEPT, division, 4, chosen, 4), 3), "a plan with K 4");
-    expect_of(kind, refused(planner_plan(2, 3, 3, kind, scores, 3, ones, 2, rows, 6, NO_KEPT, division, 2, chosen, 3), 4),
-              "a plan of two streets with K 3");
-    expect_of(kind, refused(planner_plan(4, 3, 2, kind, scores, 3, ones, 4, rows, 12, NO_KEPT, division, 3, chosen, 2), 4),
-              "a plan into three bytes");
-    expect_of(kind, refused(planner_plan(4, 3, 2, kind, NULL, 0, NULL, 0, NULL, 0, NO_KEPT, NULL, 0, NULL, 0), 4), "a plan without buffers");
+    expect_of(kind, refused(planner_plan(4, 3, 2, kind, scores, 3, ones, 4, rows, 12, division, 4, chosen, 2), PLANNER_REFUSED_KIND), "a plan");
+    expect_of(kind, refused(planner_plan(4, 3, 4, kind, scores, 3, ones, 4, rows, 12, division, 4, chosen, 4), 3), "a plan with K 4");
+    expect_of(kind, refused(planner_plan(2, 3, 3, kind, scores, 3, ones, 2, rows, 6, division, 2, chosen, 3), 4), "a plan of two streets with K 3");
+    expect_of(kind, refused(planner_plan(4, 3, 2, kind, scores, 3, ones, 4, rows, 12, division, 3, chosen, 2), 4), "a plan into three bytes");
+    expect_of(kind, refused(planner_plan(4, 3, 2, kind, NULL, 0, NULL, 0, NULL, 0, NULL, 0, NULL, 0), 4), "a plan without buffers");
     expect_of(kind, !memcmp(division, eights, 4) && !memcmp(chosen, eights, 4), "the buffers of a plan");
 }
 
@@ -213,10 +204,9 @@ static void numbers(void) {
 static void weighted_plans(void) {
     static const uint8_t wanted[2] = {3, 1}, to_best[4] = {1, 1, 1, 3}, in_shares[4] = {1, 1, 3, 3};
     uint8_t division[4] = {0}, chosen[2] = {0};
-    expect(planner_plan(4, 3, 2, PLANNER_FREE, scores, 3, heavy, 4, rows, 12, NO_KEPT, division, 4, chosen, 2) == 23, "the weighted total, free");
+    expect(planner_plan(4, 3, 2, PLANNER_FREE, scores, 3, heavy, 4, rows, 12, division, 4, chosen, 2) == 23, "the weighted total, free");
     expect(!memcmp(division, to_best, 4) && !memcmp(chosen, wanted, 2), "the weighted plan, free");
-    expect(planner_plan(4, 3, 2, PLANNER_BALANCED, scores, 3, heavy, 4, rows, 12, NO_KEPT, division, 4, chosen, 2) == 22,
-           "the weighted total, balanced");
+    expect(planner_plan(4, 3, 2, PLANNER_BALANCED, scores, 3, heavy, 4, rows, 12, division, 4, chosen, 2) == 22, "the weighted total, balanced");
     expect(!memcmp(division, in_shares, 4) && !memcmp(chosen, wanted, 2), "the weighted plan, balanced");
     expect(planner_free_division(4, 3, scores, 3, heavy, 4, rows, 12, wanted, 2, division, 4) == 23, "the weighted total of a free division");
     expect(!memcmp(division, to_best, 4), "the weighted free division");
@@ -253,7 +243,7 @@ static void expect_everywhere(const uint16_t s[3], const uint8_t *weights, size_
     expect_refusal(planner_balanced_division(4, 3, s, 3, weights, length, r, 12, sites, 2, division, 4), number, what);
     expect_refusal(planner_floor(4, 3, 2, s, 3, weights, length, r, 12), number, what);
     for (size_t kind = PLANNER_FREE; kind <= PLANNER_BALANCED; kind++) {
-        expect_refusal(planner_plan(4, 3, 2, kind, s, 3, weights, length, r, 12, NO_KEPT, division, 4, chosen, 2), number, what);
+        expect_refusal(planner_plan(4, 3, 2, kind, s, 3, weights, length, r, 12, division, 4, chosen, 2), number, what);
         expect_refusal(planner_hand_plan(4, 3, 2, kind, s, 3, weights, length, r, 12, plan, 4, 7, NO_LOADS(4)), number, what);
     }
     expect(!memcmp(division, eights, 4) && !memcmp(chosen, eights, 2), what);
@@ -325,23 +315,19 @@ static void null_divisions(void) {
 
 static void null_plans(size_t kind) {
     uint8_t division[4], chosen[2];
-    expect_of(kind, refused(planner_plan(4, 3, 2, kind, NULL, 0, ones, 4, rows, 12, NO_KEPT, division, 4, chosen, 2), 6),
-              "the plan without scores");
-    expect_of(kind, refused(planner_plan(4, 3, 2, kind, scores, 3, ones, 4, NULL, 0, NO_KEPT, division, 4, chosen, 2), 6),
-              "the plan without rows");
-    expect_of(kind, refused(planner_plan(4, 3, 2, kind, scores, 3, ones, 4, rows, 12, NO_KEPT, NULL, 0, chosen, 2), 6),
-              "the plan without a division");
-    expect_of(kind, refused(planner_plan(4, 3, 2, kind, scores, 3, ones, 4, rows, 12, NO_KEPT, division, 4, NULL, 0), 6),
-              "the plan without chosen sites");
+    expect_of(kind, refused(planner_plan(4, 3, 2, kind, NULL, 0, ones, 4, rows, 12, division, 4, chosen, 2), 6), "the plan without scores");
+    expect_of(kind, refused(planner_plan(4, 3, 2, kind, scores, 3, ones, 4, NULL, 0, division, 4, chosen, 2), 6), "the plan without rows");
+    expect_of(kind, refused(planner_plan(4, 3, 2, kind, scores, 3, ones, 4, rows, 12, NULL, 0, chosen, 2), 6), "the plan without a division");
+    expect_of(kind, refused(planner_plan(4, 3, 2, kind, scores, 3, ones, 4, rows, 12, division, 4, NULL, 0), 6), "the plan without chosen sites");
 }
 
 static void texts(void) {
     const char *none = "no refusal has this number";
     expect(!strcmp(planner_refusal_text(PLANNER_ACCEPTED), "accepted"), "the text of 0");
-    for (uint32_t number = 1; number <= 26; number++) {
+    for (uint32_t number = 1; number <= 25; number++) {
         expect(strcmp(planner_refusal_text(number), none), "a text for each number");
     }
-    expect(!strcmp(planner_refusal_text(27), none) && !strcmp(planner_refusal_text(UINT32_MAX), none), "the text of other numbers");
+    expect(!strcmp(planner_refusal_text(26), none) && !strcmp(planner_refusal_text(UINT32_MAX), none), "the text of other numbers");
     uint64_t answer = planner_floor(0, 3, 2, scores, 3, ones, 4, rows, 12);
     expect(!strcmp(planner_refusal_text(planner_refusal(answer)),
                    "number of streets outside 1 to 400: plan a larger town in parts"), "the text of 1");

@@ -27,10 +27,6 @@
 //! assert_eq!(plan.sites, [1, 2, 3]);
 //! assert_eq!(plan.division.as_bytes(), [1, 1, 2, 3]);
 //!
-//! // site 3 is built already: a free plan keeps it and chooses one site more
-//! let plan = survey.plan_keeping(2, &[3])?;
-//! assert_eq!(plan.sites, [3, 1]);
-//!
 //! // there are only three sites to choose from
 //! let refusal = survey.plan(Kind::Balanced, 4).unwrap_err();
 //! assert_eq!(refusal, Refusal::Chosen);
@@ -41,10 +37,9 @@
 //!
 //! # What there is
 //! - [`Survey`] is the town, checked once when it is made, with weights if it has any ([`Survey::with_weights`]). It plans
-//!   ([`Survey::plan`]), also from sites that are built already ([`Survey::plan_keeping`]), divides the streets over sites that are given
-//!   ([`Survey::divide`]), totals a list of sites ([`Survey::list_total`]), says what a balanced plan reaches in any case
-//!   ([`Survey::floor`]) and tests a plan that was made by hand ([`Survey::test`]), also with what the streets bring to their sites
-//!   ([`Survey::test_with_loads`], [`Loads`]).
+//!   ([`Survey::plan`]), divides the streets over sites that are given ([`Survey::divide`]), totals a list of sites
+//!   ([`Survey::list_total`]), says what a balanced plan reaches in any case ([`Survey::floor`]) and tests a plan that was made by hand
+//!   ([`Survey::test`]), also with what the streets bring to their sites ([`Survey::test_with_loads`], [`Loads`]).
 //! - [`SurveyFile`] is a survey with the kind of plan and the K that are wanted, as bytes that are read and written in one of two forms
 //!   ([`Form`]), and converted from one into the other ([`SurveyFile::convert`]).
 //! - [`Refusal`] is what is wrong with a call: its number, whose it is, and what to do.
@@ -102,7 +97,7 @@ pub const ROWS_LENGTH: usize = MAX_STREETS * MAX_SITES;
 pub const FILE_LENGTH: usize = 28_141;
 
 /// The crate's version: the year, and in two digits the number of the last change request that is in.
-pub const VERSION: u32 = 202_607;
+pub const VERSION: u32 = 202_606;
 
 /// The version of the archive that is linked, which counts as [`VERSION`] does.
 ///

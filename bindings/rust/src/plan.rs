@@ -59,7 +59,7 @@ impl TryFrom<usize> for Kind {
 #[must_use]
 #[non_exhaustive]
 pub struct Plan {
-    /// The sites, in order of choice, behind those that were kept; those of a plan over given sites stand as they were given.
+    /// The sites, in order of choice; those of a plan over given sites stand as they were given.
     pub sites: Vec<u8>,
     /// The site of each street.
     pub division: Division,

@@ -78,7 +78,7 @@ unsafe extern "C" {
         division_len: usize,
     ) -> u64;
 
-    /// The plan of a kind, 0 free and 1 balanced, from the kept sites on, into `division` and `chosen`; its total.
+    /// The plan of a kind, 0 free and 1 balanced, into `division` and `chosen`; its total.
     pub fn planner_plan(
         n: usize,
         m: usize,
@@ -90,8 +90,6 @@ unsafe extern "C" {
         weights_len: usize,
         rows: *const u8,
         rows_len: usize,
-        kept: *const u8,
-        kept_len: usize,
         division: *mut u8,
         division_len: usize,
         chosen: *mut u8,

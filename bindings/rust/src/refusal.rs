@@ -89,7 +89,6 @@ refusals! {
     23 Litres: "a site with more litres than its limit", "sender of a hand plan", "move streets";
     24 Weight: "a household weight outside 1 to 99", "survey team", "correct the weight";
     25 LostWeight: "a weight other than 1, which a file of the old form would lose", "calling program", "make one of the new form";
-    26 Kept: "more kept sites than K, or any in a balanced plan", "planning office", "keep fewer, or make a free plan";
 }
 
 impl Refusal {

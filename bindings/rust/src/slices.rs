@@ -14,11 +14,8 @@
 //!
 //! let (scores, weights, rows) = ([2, 1], [1, 1], [1, 2, 1, 0]);
 //! let (mut division, mut chosen) = ([0; 2], [0; 2]);
-//! assert_eq!(slices::plan(2, 2, 2, Kind::Balanced, &scores, &weights, &rows, &[], &mut division, &mut chosen), Ok(3));
+//! assert_eq!(slices::plan(2, 2, 2, Kind::Balanced, &scores, &weights, &rows, &mut division, &mut chosen), Ok(3));
 //! assert_eq!((division, chosen), ([2, 1], [1, 2]));
-//! // site 2 is kept, and the one round of a free plan adds site 1
-//! assert_eq!(slices::plan(2, 2, 2, Kind::Free, &scores, &weights, &rows, &[2], &mut division, &mut chosen), Ok(4));
-//! assert_eq!((division, chosen), ([1, 1], [2, 1]));
 //! assert_eq!(slices::floor(2, 2, 3, &scores, &weights, &rows), Err(Refusal::Chosen));
 //! ```
 #![allow(clippy::too_many_arguments, reason = "a function here has the parameters of the library's own")]
@@ -162,15 +159,14 @@ pub fn balanced_division(
 /// The plan of a kind: the site of each street into the `n` bytes of `division`, the sites in order of choice into the `k` bytes of
 /// `chosen`. Gives the total.
 ///
-/// A free plan starts from the sites of `kept`, in their order, and rounds add the rest until there are `k`, each the site that raises the
-/// total most, the lowest number on a tie; then the streets go to them as in [`free_division`]. A balanced one has no kept sites. Each of
-/// its `k` rounds deals its site `n / k` streets, the first `n % k` rounds one more: those that give it the highest score times weight, then
-/// the best place, then by number. Then the streets are divided over the sites as in [`balanced_division`].
+/// In a free plan each of `k` rounds adds the site that raises the total most, the lowest number on a tie; then the streets go to them as
+/// in [`free_division`]. In a balanced one each round deals its site `n / k` streets, the first `n % k` rounds one more: those that give it
+/// the highest score times weight, then the best place, then by number. Then the streets are divided over the sites as in
+/// [`balanced_division`].
 ///
 /// # Errors
 /// As [`check_survey`], where for a balanced plan 5 `Share` is tried after 3, and 6 `BufferLength` for the division and the chosen sites
-/// too; then over the kept sites, of which there may be any number, 17 `SiteOutside`, 20 `ListedTwice`, and 26 `Kept` where they are more
-/// than `k`, or where there are any in a balanced plan.
+/// too.
 pub fn plan(
     n: usize,
     m: usize,
@@ -179,7 +175,6 @@ pub fn plan(
     scores: &[u16],
     weights: &[u8],
     rows: &[u8],
-    kept: &[u8],
     division: &mut [u8],
     chosen: &mut [u8],
 ) -> Result<u32, Refusal> {
@@ -197,8 +192,6 @@ pub fn plan(
             weights.len(),
             rows.as_ptr(),
             rows.len(),
-            kept.as_ptr(),
-            kept.len(),
             division.as_mut_ptr(),
             division.len(),
             chosen.as_mut_ptr(),

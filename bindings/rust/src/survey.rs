@@ -186,46 +186,11 @@ impl Survey {
     /// In order of trial: 3 [`Chosen`](Refusal::Chosen), and for a balanced plan 5 [`Share`](Refusal::Share) where K is above the number of
     /// streets.
     pub fn plan(&self, kind: Kind, k: usize) -> Result<Plan, Refusal> {
-        self.planned(kind, k, &[])
-    }
-
-    /// The free plan with K sites that keeps sites which are built already. A balanced plan can't keep any.
-    ///
-    /// It starts from the kept sites, in their order, and is made in as many rounds as sites are left to choose, each of which adds the site
-    /// that raises the total most; where K are kept, they are the plan. With R rounds, R at least 1, total S, F the total of the kept sites,
-    /// and T that of any K sites with the kept ones among them, R^R (T - S) is at most (R - 1)^R (T - F).
-    ///
-    /// ```
-    /// use planner::{Kind, Refusal, Survey};
-    ///
-    /// # fn main() -> Result<(), Refusal> {
-    /// let survey = Survey::new(&[2, 1, 0], &[&[1, 2, 3][..], &[1, 3, 2], &[2, 1], &[3, 2, 1]])?;
-    /// assert_eq!(survey.plan(Kind::Free, 2)?.sites, [1, 2]);
-    ///
-    /// // site 3 stays, and one more is chosen
-    /// let plan = survey.plan_keeping(2, &[3])?;
-    /// assert_eq!((&plan.sites[..], plan.division.as_bytes(), plan.total), (&[3, 1][..], &[1, 1, 1, 3][..], 7));
-    /// // both sites are there already
-    /// assert_eq!(survey.plan_keeping(2, &[3, 2])?.total, 6);
-    ///
-    /// assert_eq!(survey.plan_keeping(1, &[3, 2]), Err(Refusal::Kept));
-    /// # Ok(())
-    /// # }
-    /// ```
-    ///
-    /// # Errors
-    /// In order of trial: 3 [`Chosen`](Refusal::Chosen), and over the kept sites 17 [`SiteOutside`](Refusal::SiteOutside), 20
-    /// [`ListedTwice`](Refusal::ListedTwice), and 26 [`Kept`](Refusal::Kept) where they are more than K.
-    pub fn plan_keeping(&self, k: usize, kept: &[u8]) -> Result<Plan, Refusal> {
-        self.planned(Kind::Free, k, kept)
-    }
-
-    fn planned(&self, kind: Kind, k: usize, kept: &[u8]) -> Result<Plan, Refusal> {
-        let (n, m) = (self.streets(), self.sites());
-        let mut division = vec![0; n];
+        let mut division = vec![0; self.streets()];
         // a K above the number of sites is refused before the lengths are looked at
-        let mut sites = vec![0; k.min(m)];
-        let total = slices::plan(n, m, k, kind, &self.scores, &self.weights, &self.rows, kept, &mut division, &mut sites)?;
+        let mut sites = vec![0; k.min(self.sites())];
+        let total =
+            slices::plan(self.streets(), self.sites(), k, kind, &self.scores, &self.weights, &self.rows, &mut division, &mut sites)?;
         Ok(Plan { sites, division: division.into(), total })
     }
 

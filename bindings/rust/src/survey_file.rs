@@ -144,8 +144,7 @@ impl SurveyFile {
         Ok(file)
     }
 
-    /// The plan that is wanted. A file names no sites to keep: where there are any, it is its survey that plans with them
-    /// ([`Survey::plan_keeping`]).
+    /// The plan that is wanted.
     ///
     /// # Errors
     /// In order of trial: 3 [`Chosen`](Refusal::Chosen), and for a balanced plan 5 [`Share`](Refusal::Share) where K is above the number of

@@ -167,19 +167,6 @@ pub fn bytes_list() -> Bytes
     }
 }
 
-// The next list, of bytes, or where the case has none an empty one.
-pub fn bytes_of(listed: bool) -> Bytes
-    ensures { IsPrefixLen result.len result.buffer }
-{
-    if listed {
-        return bytes_list();
-    }
-    Bytes {
-        buffer: [0; BYTES],
-        len: 0,
-    }
-}
-
 // The next list, of loads or limits.
 pub fn loads_list() -> Loads
     ensures { IsPrefixLen result.len result.buffer }

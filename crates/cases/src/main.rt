@@ -10,7 +10,7 @@ mod plans;
 mod say;
 
 // the last command, what a command with weights has more, and the most cases
-const LAST: usize = 19;
+const LAST: usize = 18;
 
 const WEIGHED: usize = 20;
 
@@ -79,9 +79,9 @@ fn answered(command: usize, weighed: bool) {
         3 => part_case(),
         4 => plans::list_case(weighed),
         5 => plans::division_case(false, weighed),
-        6 => plans::plan_case(0, false, weighed),
+        6 => plans::plan_case(0, weighed),
         7 => plans::division_case(true, weighed),
-        8 => plans::plan_case(1, false, weighed),
+        8 => plans::plan_case(1, weighed),
         9 => plans::floor_case(weighed),
         10 => files::write_case(weighed),
         11 => files::read_case(weighed),
@@ -89,10 +89,9 @@ fn answered(command: usize, weighed: bool) {
         13 => hands::hand_case(1, false, weighed),
         14 => hands::hand_case(0, true, weighed),
         15 => hands::hand_case(1, true, weighed),
-        16 => plans::plan_case(input::number(), false, weighed),
+        16 => plans::plan_case(input::number(), weighed),
         17 => hands::hand_case(input::number(), true, weighed),
-        18 => files::convert_case(),
-        _ => plans::plan_case(input::number(), true, weighed),
+        _ => files::convert_case(),
     }
 }
 

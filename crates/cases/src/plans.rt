@@ -100,25 +100,23 @@ fn planned(
     scores: &[u16],
     weights: &[u8],
     rows: &[u8],
-    kept: &[u8],
     division: &mut [u8],
     chosen: &mut [u8],
 ) {
-    say::answer(planner::plan(n, m, k, kind, scores, weights, rows, kept, division, chosen));
+    say::answer(planner::plan(n, m, k, kind, scores, weights, rows, division, chosen));
     say::buffer(b" division", division);
     say::buffer(b" chosen", chosen);
 }
 
 // Commands 6, free, and 8, balanced: the streets, the sites, the chosen; the scores; the rows; the buffers of the division and of the chosen
-// sites. Command 16 is the same with the kind before them, and command 19 also with the kept sites behind the rows.
-pub fn plan_case(kind: usize, keeping: bool, weighed: bool) {
+// sites. Command 16 is the same with the kind before them.
+pub fn plan_case(kind: usize, weighed: bool) {
     let n = input::number();
     let m = input::number();
     let k = input::number();
     let s = input::scores_list();
     let w = input::weights_of(weighed, n);
     let r = input::bytes_list();
-    let q = input::bytes_of(keeping);
     let d = input::bytes_list();
     let c = input::bytes_list();
     let scores = s.buffer;
@@ -127,8 +125,6 @@ pub fn plan_case(kind: usize, keeping: bool, weighed: bool) {
     let w_len = w.len;
     let rows = r.buffer;
     let r_len = r.len;
-    let kept = q.buffer;
-    let q_len = q.len;
     let mut division = d.buffer;
     let d_len = d.len;
     let mut chosen = c.buffer;
@@ -141,7 +137,6 @@ pub fn plan_case(kind: usize, keeping: bool, weighed: bool) {
         &scores[..s_len],
         &weights[..w_len],
         &rows[..r_len],
-        &kept[..q_len],
         &mut division[..d_len],
         &mut chosen[..c_len],
     );

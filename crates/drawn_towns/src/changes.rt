@@ -1,4 +1,4 @@
-// Surveys of small towns with a changed score, byte or weight, which may be refused, and with a wrong row, which is.
+// Surveys of small towns with a changed score, byte or weight, which may be refused.
 ghost use Rattle.drawn_towns.specs.Small.{Small};
 
 use crate::{BYTES, SITES, Town, weights};
@@ -35,14 +35,4 @@ pub fn with_weight(seed: &mut u64, town: Town) -> Town
     let s = crate::draw(seed, town.n);
     let weight = crate::draw(seed, 256) as u8;
     weights::with_weight(town, s, weight)
-}
-
-// The town with a site above m in the first row.
-pub fn with_wrong_row(town: Town) -> Town
-    requires { Small town }
-    ensures { Small result }
-{
-    let mut other = town;
-    other.rows[0] = 255;
-    other
 }

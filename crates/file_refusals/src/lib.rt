@@ -37,7 +37,7 @@ pub fn write_refusal(
 ) -> u8
     ensures { Tried write_refusal (write_lent n m k kind new_form scores weights rows file) result }
 {
-    let own = call_check::kind_refusal(kind);
+    let own = refusals::kind_refusal(kind);
     let r = check::survey_refusal(n, m, k, own, scores, weights, rows);
     if r != 0 {
         return r;

@@ -6,7 +6,7 @@ use mathlib.Mathlib.Data.Bool.Basic.{dichotomy}
 use mathlib.Core.Logic.{⊎_elim}
 use mathlib.Core.List.{List, [], ◌∷◌, ◌++◌, append-nil}
 use Prim.Native.Nat.{ℕ, zero, suc, ◌+◌, ◌-◌, ◌*◌, ◌^◌, ◌≤◌, ◌<◌}
-use native.Mathlib.Nat.{mul-sub, mul-le-mul_left, mul-le-mul_right, pow-zero, pow-suc, le_trans, sub-le}
+use native.Mathlib.Nat.{mul-sub, mul-le-mul_left, mul-le-mul_right, pow-zero, pow-suc, le_trans, le_of_eq, sub-le}
 use native.Mathlib.Numerals.{sub-one}
 use native.Mathlib.Omega.{arith}
 use lib.ListN.{length}
@@ -95,3 +95,8 @@ module _ (v : ℕ → ℕ → ℕ) (n m : ℕ) where
   bound-any T sites l few j =
       let from-none = greedy-bound T sites l [] (le_trans (sum-length (λ a. true) T) few) j in
       le_trans from-none (mul-le-mul_left ((l - 1) ^ j) (sub-le (total v n T) (total v n [])))
+
+  -- the plan of k rounds, against any k different sites: document 01's bound
+  pub bound-plan : (k : ℕ) (T : List ℕ) → length T ≡ k → distinct T ≡ true → Sites m T →
+      k ^ k * (total v n T - total v n (greedy v n m k [])) ≤ (k - 1) ^ k * total v n T
+  bound-plan k T size apart sites = bound-any T sites k (le_of_eq size) k

@@ -7,7 +7,7 @@ ghost use Rattle.survey.specs.Town.{town_of, town, was, is};
 ghost use Rattle.survey.specs.Rows.{score, value};
 ghost use Rattle.survey.specs.Accepted.{Accepted};
 ghost use Rattle.free_plan.specs.Greedy.{greedy};
-ghost use Rattle.plans.specs.Plans.{list_total, free_division, free_plan};
+ghost use Rattle.plans.specs.Plans.{list_total, free_division, free_sites};
 ghost use Rattle.free_rounds.specs.Held.{Held, Scores, Weighed, sites_of};
 
 use free_rounds::State;
@@ -31,7 +31,7 @@ fn planned(
 {
     let size = (m + 1) * n;
     let mut table = [0u16; counting::ENTRIES];
-    site_table::fill_values(n, m, scores, rows, &mut table[..size]);
+    tables::by_site::fill_values(n, m, scores, rows, &mut table[..size]);
     let even = survey::weights::even(weights);
     free_rounds::rounds(&table[..size], weights, even, n, m, sites, k)
 }
@@ -82,27 +82,25 @@ pub fn divide(
     total_of(state, weights, n)
 }
 
-// The free plan that starts from kept sites, which may be none: its sites, its division, and its total.
+// The free plan: its sites, its division, and its total.
 pub fn plan(
     n: usize,
     m: usize,
     scores: &[u16],
     weights: &[u8],
     rows: &[u8],
-    kept: &[u8],
     division: &mut [u8],
     chosen: &mut [u8],
 ) -> u32
     requires accepted { Accepted (town_of n m scores.now weights.now rows.now) × (length chosen.old ≤ m) }
-    requires kept_in_bounds { (length kept.now ≤ length chosen.old) × ((i : ℕ) → at kept.now i ≤ m) }
     requires division_len { length division.old ≡ n }
-    ensures total { result ≡ (free_plan (town n m scores weights rows) (length (was chosen)) (was kept)).reported }
-    ensures division { is division ≡ (free_plan (town n m scores weights rows) (length (was chosen)) (was kept)).division }
-    ensures chosen { is chosen ≡ (free_plan (town n m scores weights rows) (length (was chosen)) (was kept)).sites }
+    ensures total { result ≡ list_total (town n m scores weights rows) (free_sites (town n m scores weights rows) (length (was chosen))) }
+    ensures division { is division ≡ free_division (town n m scores weights rows) (free_sites (town n m scores weights rows) (length (was chosen))) }
+    ensures chosen { is chosen ≡ free_sites (town n m scores weights rows) (length (was chosen)) }
 {
     let k = chosen.len();
-    let left = k - kept.len();
-    let state = planned(n, m, scores, weights, rows, kept, left);
+    let none = [0u8; 1];
+    let state = planned(n, m, scores, weights, rows, &none[..0], k);
     let flags = state.flags;
     let sites = state.chosen;
     serve::serve(rows, m, &flags, division);

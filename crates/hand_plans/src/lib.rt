@@ -168,7 +168,7 @@ fn own_refusal(
     ensures { result ≡ plan_kind_refusal kind n k or_else length_refusal (length (was division)) n or_else
         lengths_refusal n m (loads_lent kilograms litres kilogram_limits litre_limits) }
 {
-    let r = call_check::plan_kind_refusal(kind, n, k);
+    let r = refusals::plan_kind_refusal(kind, n, k);
     if r != 0 {
         return r;
     }
@@ -184,7 +184,7 @@ fn own_refusal(
     if kilogram_limits.len() != m {
         return 6;
     }
-    call_check::length_refusal(litre_limits.len(), m)
+    refusals::length_refusal(litre_limits.len(), m)
 }
 
 // What a hand plan is tried for behind its survey: its loads, its sites from the lowest one allowed, the 18 of its kind, the limits, and the claim.
@@ -212,7 +212,7 @@ fn sent_refusal(
     if r != 0 {
         return r;
     }
-    let r = call_check::ranges_refusal(low, m, division);
+    let r = refusals::ranges_refusal(low, m, division);
     if r != 0 {
         return r;
     }

@@ -16,7 +16,7 @@ pub fn list_total(
 ) -> Answer
     ensures { ListTotalled (list_lent n m scores weights rows sites) result }
 {
-    let x = call_check::list_total_refusal(n, m, scores, weights, rows, sites);
+    let x = refusals::list_total_refusal(n, m, scores, weights, rows, sites);
     if x != 0 {
         return Answer::Refused(x);
     }
@@ -35,7 +35,7 @@ pub fn free_division(
 ) -> Answer
     ensures { FreeDivided (division_lent n m scores weights rows sites division) (is division) result }
 {
-    let x = call_check::free_division_refusal(n, m, scores, weights, rows, sites, division);
+    let x = refusals::free_division_refusal(n, m, scores, weights, rows, sites, division);
     if x != 0 {
         return Answer::Refused(x);
     }
@@ -55,7 +55,7 @@ pub fn balanced_division(
 ) -> Answer
     ensures { BalancedDivided (division_lent n m scores weights rows sites division) (is division) result }
 {
-    let x = call_check::balanced_division_refusal(n, m, scores, weights, rows, sites, division);
+    let x = refusals::balanced_division_refusal(n, m, scores, weights, rows, sites, division);
     if x != 0 {
         return Answer::Refused(x);
     }

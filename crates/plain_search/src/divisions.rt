@@ -3,12 +3,14 @@
 ghost use Rattle.std.specs.Prelude.{◌≡◌, ◌≤◌, length};
 ghost use Rattle.drawn_towns.specs.Small.{Small};
 
-use crate::sets::{NUMBERS, index};
 use crate::{scores, shares};
-use drawn_towns::{STREETS, Town};
+use drawn_towns::{SITES, STREETS, Town};
 
 // the ways to give each of 8 streets one of 5 sites
 const DIVISIONS: u32 = 390625;
+
+// a table by site has an entry for each number up to 5
+const NUMBERS: usize = SITES + 1;
 
 // The best balanced division so far, and its total.
 #[derive(Drop)]
@@ -28,6 +30,13 @@ fn is_balanced(town: Town, division: [u8; STREETS]) -> bool
         }
     }
     true
+}
+
+// The index of a site in a table by site.
+fn index(site: u8) -> usize
+    ensures { result ≤ 5 }
+{
+    site as usize % NUMBERS
 }
 
 // The shares of the list by site, 0 for a site that is not in it.

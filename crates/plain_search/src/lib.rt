@@ -1,12 +1,9 @@
 // What plans are right for a small town, found the plain way: word for word, or by trying everything. Nothing of the library is used here.
 pub mod asked;
-pub mod bounds;
 pub mod divisions;
 pub mod floors;
 pub mod hands;
-pub mod kept;
 pub mod loads;
-pub mod plans;
 pub mod rounds;
 pub mod scores;
 pub mod sets;

@@ -1,12 +1,14 @@
-// The free plan of a small town: the totals of sets of sites, the greedy rounds that go by these totals alone, and where the streets go.
+// The free plan of a small town: the totals of sets of sites, the greedy rounds that go by these totals alone, and the best set of k sites.
 ghost use Rattle.std.specs.Prelude.{◌≡◌, ◌≤◌, length};
 ghost use Rattle.drawn_towns.specs.Small.{Small};
 
 use crate::scores;
 use drawn_towns::{SITES, STREETS, Town};
 
-// a table by site, as a set, has an entry for each number up to 5
-pub const NUMBERS: usize = SITES + 1;
+// a set has a flag for each number up to 5
+const NUMBERS: usize = SITES + 1;
+
+const SETS: usize = 64;
 
 // what stands behind the sites of a list
 pub const UNTOUCHED: u8 = 255;
@@ -25,11 +27,11 @@ pub struct Site {
     pub worth: u32,
 }
 
-// The index of a site in a table by site.
-pub fn index(site: u8) -> usize
-    ensures { result ≤ 5 }
-{
-    site as usize % NUMBERS
+// K^K and (K-1)^K, the factors of the bound.
+#[derive(Drop)]
+struct Factors {
+    own: u64,
+    less: u64,
 }
 
 // The best counted score so far once a site is looked at, which counts only in the set.
@@ -120,35 +122,14 @@ fn raising_site(town: Town, set: [bool; NUMBERS]) -> usize
     best.number
 }
 
-// A length, but five at most.
-fn most(len: usize) -> usize
-    ensures { (result ≤ len) × (result ≤ 5) }
-{
-    if len < SITES { len } else { SITES }
-}
-
-// The sites of a list, five at most, as the first ones of a choice.
-pub fn opened(list: &[u8]) -> Choice
+// The k sites of the greedy rounds.
+pub fn greedy(town: Town) -> Choice
+    requires { Small town }
     ensures { (length result.sites ≡ 5) × (length result.set ≡ 6) }
 {
     let mut sites = [UNTOUCHED; SITES];
     let mut set = [false; NUMBERS];
-    for i in 0..most(list.len()) {
-        sites[i] = list[i];
-        set[index(list[i])] = true;
-    }
-    Choice { sites, set }
-}
-
-// The k sites of a plan that starts from kept ones: these in their order, and then those of the greedy rounds.
-pub fn greedy(town: Town, kept: &[u8]) -> Choice
-    requires { Small town }
-    ensures { (length result.sites ≡ 5) × (length result.set ≡ 6) }
-{
-    let start = opened(kept);
-    let mut sites = start.sites;
-    let mut set = start.set;
-    for i in kept.len()..town.k {
+    for i in 0..town.k {
         let site = raising_site(town, set);
         sites[i] = site as u8;
         set[site] = true;
@@ -161,10 +142,12 @@ pub fn listed(town: Town) -> [bool; NUMBERS]
     requires { Small town }
     ensures { length result ≡ 6 }
 {
-    let sites = town.sites;
-    let k = town.k;
-    let choice = opened(&sites[..k]);
-    choice.set
+    let mut set = [false; NUMBERS];
+    for i in 0..town.k {
+        let site = town.sites[i] as usize % NUMBERS;
+        set[site] = true;
+    }
+    set
 }
 
 // Where street s goes: the first site of its row that is in a set, and 0 where there is none.
@@ -202,4 +185,95 @@ pub fn division(town: Town, set: [bool; NUMBERS]) -> [u8; STREETS]
         division[s] = goes_to(town, s, set);
     }
     division
+}
+
+// The set whose flags are the digits of a number in base two.
+fn set_of(number: usize) -> [bool; NUMBERS] {
+    let mut set = [false; NUMBERS];
+    let mut rest = number;
+    for i in 0..NUMBERS {
+        set[i] = rest % 2 == 1;
+        rest = rest / 2;
+    }
+    set
+}
+
+// How many sites of 1 to m a set has.
+fn size_of(town: Town, set: [bool; NUMBERS]) -> usize
+    requires { Small town }
+{
+    let mut size: usize = 0;
+    for i in 0..town.m {
+        size = scores::add_if(size, set[i + 1]);
+    }
+    size
+}
+
+// The total of a set, if it has k sites, and else 0.
+fn total_of_choice(town: Town, set: [bool; NUMBERS]) -> u32
+    requires { Small town }
+    ensures { result ≤ 133691400 }
+{
+    if size_of(town, set) != town.k {
+        return 0;
+    }
+    set_total(town, set)
+}
+
+// The greater of two totals.
+fn greater(x: u32, y: u32) -> u32
+    requires { (x ≤ 133691400) × (y ≤ 133691400) }
+    ensures { result ≤ 133691400 }
+{
+    if x < y {
+        return y;
+    }
+    x
+}
+
+// The greatest total that any k sites of 1 to m have.
+pub fn best_total(town: Town) -> u32
+    requires { Small town }
+    ensures { result ≤ 133691400 }
+{
+    let mut best: u32 = 0;
+    for number in 0..SETS {
+        best = greater(best, total_of_choice(town, set_of(number)));
+    }
+    best
+}
+
+// The factors for k sites.
+fn powers(k: usize) -> Factors
+    ensures { (result.own ≤ 3125) × (result.less ≤ 3125) }
+{
+    match k {
+        1 => Factors { own: 1, less: 0 },
+        2 => Factors { own: 4, less: 1 },
+        3 => Factors { own: 27, less: 8 },
+        4 => Factors { own: 256, less: 81 },
+        _ => Factors {
+            own: 3125,
+            less: 1024,
+        },
+    }
+}
+
+// A factor times a total.
+fn times(factor: u64, total: u32) -> u64
+    requires { (factor ≤ 3125) × (total ≤ 133691400) }
+    ensures { result ≤ 417785625000 }
+{
+    factor * total as u64
+}
+
+// Whether a total of k sites is as near to the best one as the bound of the free plan has it.
+pub fn is_near(k: usize, best: u32, total: u32) -> bool
+    requires { best ≤ 133691400 }
+{
+    if best <= total {
+        return best == total;
+    }
+    let by = powers(k);
+    times(by.own, best - total) <= times(by.less, best)
 }

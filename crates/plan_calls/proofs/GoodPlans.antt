@@ -1,14 +1,14 @@
 -- How good the plans are that the definitions give, of each kind.
 -- Assumes nothing.
 use mathlib.Core.Path.{◌≡◌, refl, sym}
-use mathlib.Core.List.{List}
 use Prim.Native.Nat.{ℕ}
 use Rattle.counting.specs.Sites.{Choice}
 use Rattle.survey.specs.Town.{Town}
 use Rattle.survey.specs.Rows.{value}
 use Rattle.survey.specs.Refusals.{share_refusal, survey_refusal}
 use Rattle.survey.proofs.Sound.{accepted, chosen-within}
-use Rattle.free_plan.proofs.Kept.{keeping-plan, keeping-bound, keeping-opens, keeping-whole}
+use Rattle.free_plan.proofs.Sites.{free-plan}
+use Rattle.free_plan.proofs.Bound.{bound-plan}
 use Rattle.free_results.proofs.Scored.{served-total}
 use Rattle.plans.proofs.Orders.{by-counted-score}
 use Rattle.plans.specs.Plans.{list_total, free_division, free_sites, balanced_division, street_key, balanced_sites, balanced_total}
@@ -16,26 +16,20 @@ use Rattle.plans.specs.Best.{BestDivision}
 use Rattle.balanced_results.proofs.BestDivisions.{best-division}
 use Rattle.balanced_results.proofs.SurveyRounds.{sites-plan, sites-shareable}
 use Rattle.balanced_results.proofs.SurveyFloor.{plan-floor}
-use Rattle.refusals.specs.Refusals.{kept_refusal}
 use Rattle.refusals.proofs.Listed.{Called, called}
-use Rattle.refusals.proofs.PlanCalled.{kept-choice, kept-few}
 use Rattle.plan_calls.specs.Good.{GoodFree, GoodBalanced}
 use Rattle.plan_calls.proofs.OwnTests.{free-list-passes, balanced-list-passes}
 
-module _ (t : Town) (k own : ℕ) (ok : survey_refusal t k own ≡ 0) (kept : List ℕ) (passes : kept_refusal t.m k kept ≡ 0) where
-  pub good-free : GoodFree t k kept (free_division t (free_sites t k kept)) (free_sites t k kept) (list_total t (free_sites t k kept))
+module _ (t : Town) (k own : ℕ) (ok : survey_refusal t k own ≡ 0) where
+  pub good-free : GoodFree t k (free_division t (free_sites t k)) (free_sites t k) (list_total t (free_sites t k))
   good-free =
-      let list = kept-choice t.m k kept passes in
-      let few = kept-few t.m k kept passes in
-      let plan = keeping-plan (value t) t.n t.m k list few (chosen-within t k own ok).1 in
+      let plan = free-plan (value t) t.n t.m k (chosen-within t k own ok).1 in
       record {
         sites = plan;
-        opens = keeping-opens (value t) t.n t.m k kept;
-        whole = keeping-whole (value t) t.n t.m k kept;
         of-sites = refl;
-        of-streets = sym (served-total t (free_sites t k kept) (accepted t k own ok).sound-scores);
-        bound = keeping-bound (value t) t.n t.m k list few;
-        passes = free-list-passes t k own ok (free_sites t k kept) plan;
+        of-streets = sym (served-total t (free_sites t k) (accepted t k own ok).sound-scores);
+        bound = λ other p. bound-plan (value t) t.n t.m k other p.size p.apart p.sites;
+        passes = free-list-passes t k own ok (free_sites t k) plan;
       }
 
 module _ (t : Town) (k own : ℕ) (ok : survey_refusal t k own ≡ 0) (enough : share_refusal t.n k ≡ 0) where

@@ -10,14 +10,12 @@ use Rattle.survey.specs.Refusals.{share_refusal}
 use Rattle.survey.proofs.Sound.{accepted, own-accepted, chosen-within}
 use Rattle.survey.proofs.LeastWeights.{smallest}
 use Rattle.survey.proofs.ByKind.{kind-free, kind-balanced, kind-one}
-use Rattle.free_plan.proofs.Valued.{AtMost}
 use Rattle.plans.specs.Plans.{Plan, free_plan, balanced_plan, plan_of_kind, plan_floor}
 use Rattle.plans.specs.Unweighted.{Ones, plain_plan_of_kind}
-use Rattle.plans.proofs.Unkept.{plan-unkept}
 use Rattle.plans.proofs.Unweighted.{plan-plain, floor-plain}
 use Rattle.refusals.specs.Inputs.{SurveyInput, PlanInput}
-use Rattle.refusals.specs.Refusals.{Tried, unkept_refusal, plan_refusal, free_plan_refusal, balanced_plan_refusal, floor_refusal}
-use Rattle.refusals.proofs.PlanCalled.{plan-fits, plan-none, kept-choice}
+use Rattle.refusals.specs.Refusals.{Tried, plan_refusal, free_plan_refusal, balanced_plan_refusal, floor_refusal}
+use Rattle.refusals.proofs.Listed.{plan-fits}
 use Rattle.refusals.proofs.ByKind.{plan-free, plan-balanced, plan-other}
 use Rattle.call_answers.specs.declared.Answer.{Answer}
 use Rattle.call_answers.specs.declared.Answer.TheVariants as answer
@@ -51,41 +49,35 @@ module _ {i : PlanInput} {division chosen : List ℕ} {r : Answer} where
   of-plan Good o y good = rw (told-new o.answer y _ _ o.streets, told-new o.answer y _ _ o.sites, told-due o.answer y) good
 
   -- what is given by the kind is given by its case, and good
-  planned : PlanOutcome i (plan_refusal i) (plan_of_kind i.kind i.town i.k i.kept) division chosen r → Planned i division chosen r
+  planned : PlanOutcome i (plan_refusal i) (plan_of_kind i.kind i.town i.k) division chosen r → Planned i division chosen r
   planned o =
       record {
         outcome = o;
         free = free;
         balanced = balanced;
         other = λ l. o.answer.right-number ∙ plan-other i l;
-        unkept = λ none. outcome-as (plan-none i none) (ap (plan_of_kind i.kind i.town i.k) none ∙ plan-unkept i.kind i.town i.k) o;
         plain = λ ones. outcome-same (unweighted ones) o;
         good-free = good-0;
         good-balanced = good-1;
       }
     where
-      free : i.kind ≡ 0 → PlanOutcome i (free_plan_refusal i) (free_plan i.town i.k i.kept) division chosen r
+      free : i.kind ≡ 0 → PlanOutcome i (free_plan_refusal i) (free_plan i.town i.k) division chosen r
       free z = outcome-as (plan-free i z) (kind-free _ _ i.kind z) o
 
       balanced : i.kind ≡ 1 → PlanOutcome i (balanced_plan_refusal i) (balanced_plan i.town i.k) division chosen r
       balanced z = outcome-as (plan-balanced i z) (kind-balanced _ _ i.kind (kind-one z)) o
 
-      unweighted : Ones i.town → plan_refusal i ≡ 0
-          → plan_of_kind i.kind i.town i.k i.kept ≡ plain_plan_of_kind i.kind i.town i.k i.kept
+      unweighted : Ones i.town → plan_refusal i ≡ 0 → plan_of_kind i.kind i.town i.k ≡ plain_plan_of_kind i.kind i.town i.k
       unweighted ones z =
-          let (survey, kept) = or-zero (unkept_refusal i) _ z in
-          let (some, few) = chosen-within i.town i.k _ survey in
-          let low : AtMost i.town.m i.kept = λ a h. ((kept-choice i.town.m _ i.kept kept).sites a h).1 in
-          plan-plain i.town ones (accepted i.town i.k _ survey) i.kind i.k i.kept low some few
+          let (some, few) = chosen-within i.town i.k _ z in
+          plan-plain i.town ones (accepted i.town i.k _ z) i.kind i.k some few
 
-      good-0 : i.kind ≡ 0 → accepts r ≡ true → GoodFree i.town i.k i.kept division chosen (total r)
-      good-0 z y =
-          let (survey, kept) = or-zero _ _ (told-passed (free z).answer y) in
-          of-plan (GoodFree i.town i.k i.kept) (free z) y (good-free i.town i.k _ survey i.kept kept)
+      good-0 : i.kind ≡ 0 → accepts r ≡ true → GoodFree i.town i.k division chosen (total r)
+      good-0 z y = of-plan (GoodFree i.town i.k) (free z) y (good-free i.town i.k _ (told-passed (free z).answer y))
 
       good-1 : i.kind ≡ 1 → accepts r ≡ true → GoodBalanced i.town i.k division chosen (total r)
       good-1 z y =
-          let ok = (or-zero _ _ (told-passed (balanced z).answer y)).0 in
+          let ok = told-passed (balanced z).answer y in
           let enough = (or-zero (share_refusal i.town.n i.k) _ (own-accepted i.town i.k _ ok)).0 in
           of-plan (GoodBalanced i.town i.k) (balanced z) y (good-balanced i.town i.k _ ok enough)
 
@@ -94,11 +86,10 @@ module _ {i : PlanInput} {x : ℕ} (tried : Tried plan_refusal i x) where
   plan-refused h = planned (record { answer = told-refused tried h; streets = kept-refused tried h _ _; sites = kept-refused tried h _ _ })
 
   -- what an engine gave for the length of the lent list of sites, if it is the plan of the kind
-  given : x ≡ 0 → (p : Plan) → plan_of_kind i.kind i.town (length i.chosen) i.kept ≡ p → {division chosen : List ℕ} {reported : ℕ}
+  given : x ≡ 0 → (p : Plan) → plan_of_kind i.kind i.town (length i.chosen) ≡ p → {division chosen : List ℕ} {reported : ℕ}
       → Made p reported division chosen → Planned i division chosen (answer.Total reported)
   given z p e (t, d, c) =
-      let due : p ≡ plan_of_kind i.kind i.town i.k i.kept =
-      sym e ∙ ap (λ (k : ℕ). plan_of_kind i.kind i.town k i.kept) (plan-fits tried z).1 in
+      let due : p ≡ plan_of_kind i.kind i.town i.k = sym e ∙ ap (plan_of_kind i.kind i.town) (plan-fits tried z).1 in
       planned
       (record {
         answer = told-total tried z (t ∙ ap (λ (q : Plan). q.reported) due);
@@ -107,7 +98,7 @@ module _ {i : PlanInput} {x : ℕ} (tried : Tried plan_refusal i x) where
       })
 
   pub free-given : x ≡ 0 → i.kind ≡ 0 → {division chosen : List ℕ} {reported : ℕ}
-      → Made (free_plan i.town (length i.chosen) i.kept) reported division chosen → Planned i division chosen (answer.Total reported)
+      → Made (free_plan i.town (length i.chosen)) reported division chosen → Planned i division chosen (answer.Total reported)
   free-given z kind = given z _ (kind-free _ _ i.kind kind)
 
   pub balanced-given : x ≡ 0 → (i.kind ≡ 0 → ⊥) → {division chosen : List ℕ} {reported : ℕ}

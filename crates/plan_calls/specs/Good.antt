@@ -1,10 +1,8 @@
 -- How good a plan is, said of what its call gave back: a part of the calls' promises.
 -- Assumes nothing.
-use Rattle.std.specs.Prelude.{◌≡◌, List, ℕ, ◌≤◌, length, take}
+use Rattle.std.specs.Prelude.{◌≡◌, List, ℕ, ◌-◌, ◌*◌, ◌^◌, ◌≤◌}
 use Rattle.counting.specs.Sites.{Choice}
 use Rattle.survey.specs.Town.{Town}
-use Rattle.survey.specs.Rows.{value}
-use Rattle.free_plan.specs.Kept.{KeptBound}
 use Rattle.plans.specs.Plans.{list_total, plan_total, plan_floor}
 use Rattle.plans.specs.Order.{ByCountedScore}
 use Rattle.plans.specs.Best.{BestDivision}
@@ -18,18 +16,15 @@ abbrev pub PassesTest : ℕ → Town → ℕ → List ℕ → ℕ → Type 0
 PassesTest kind t k division reported =
     (loads : Loads) → LoadsTaken t loads → Within t.m loads division → hand_refusal (hand_of t k kind division reported loads) ≡ 0
 
--- a free plan of k sites that starts from kept ones, with the total that it reports
-pub record GoodFree (t : Town) (k : ℕ) (kept division chosen : List ℕ) (reported : ℕ) : Type 0 where
+-- a free plan of k sites with the total that it reports
+pub record GoodFree (t : Town) (k : ℕ) (division chosen : List ℕ) (reported : ℕ) : Type 0 where
   -- the sites are k different ones of 1 to m
   pub sites : Choice t.m k chosen
-  -- the kept ones open them, in their order; where k are kept, they are the plan
-  pub opens : take (length kept) chosen ≡ kept
-  pub whole : length kept ≡ k → chosen ≡ kept
   -- the total is that of the sites, and the sum of the counted scores that the streets give the sites they go to
   pub of-sites : reported ≡ list_total t chosen
   pub of-streets : reported ≡ plan_total t division
-  -- no choice of k sites that holds the kept ones is better by more than the bound says; with none kept it is K ^ K * (T - S) ≤ (K - 1) ^ K * T
-  pub bound : KeptBound (value t) t.n t.m k kept reported
+  -- no choice of k sites is better by more than the bound says: K ^ K * (T - S) ≤ (K - 1) ^ K * T
+  pub bound : (other : List ℕ) → Choice t.m k other → k ^ k * (list_total t other - reported) ≤ (k - 1) ^ k * list_total t other
   -- the plan passes the test of a free hand plan
   pub passes : PassesTest 0 t k division reported
 

@@ -5,9 +5,8 @@ ghost use Rattle.plan_calls.specs.Calls.{Planned, FloorGiven};
 
 use call_answers::Answer;
 
-// The plan of k sites, free for kind 0 and balanced for kind 1, into buffers of n and of k bytes. A free one starts from the kept sites, which may be
-// none; a balanced one keeps none. In a balanced one every site gets its share of the streets, n / k, and the first n % k chosen sites get one street
-// more each. Refuses with 1, 2, 3, 4, 5 (balanced), 6, 8, 24, 9, 10, 11, 17, 20 or 26.
+// The plan of k sites, free for kind 0 and balanced for kind 1, into buffers of n and of k bytes. In a balanced one every site gets its share of the
+// streets, n / k, and the first n % k chosen sites get one street more each. Refuses with 1, 2, 3, 4, 5 (balanced), 6, 8, 24, 9, 10 or 11.
 pub fn plan(
     n: usize,
     m: usize,
@@ -16,19 +15,17 @@ pub fn plan(
     scores: &[u16],
     weights: &[u8],
     rows: &[u8],
-    kept: &[u8],
     division: &mut [u8],
     chosen: &mut [u8],
 ) -> Answer
-    ensures { Planned (plan_lent n m k kind scores weights rows kept division chosen) (is division) (is chosen) result }
+    ensures { Planned (plan_lent n m k kind scores weights rows division chosen) (is division) (is chosen) result }
 {
-    let x = call_check::plan_refusal(n, m, k, kind, scores, weights, rows, kept, division, chosen);
+    let x = refusals::plan_refusal(n, m, k, kind, scores, weights, rows, division, chosen);
     if x != 0 {
         return Answer::Refused(x);
     }
     if kind == 0 {
-        let total = free_results::plan(n, m, scores, weights, rows, kept, division, chosen);
-        return Answer::Total(total);
+        return Answer::Total(free_results::plan(n, m, scores, weights, rows, division, chosen));
     }
     Answer::Total(balanced_results::plan(n, m, scores, weights, rows, division, chosen))
 }
@@ -37,7 +34,7 @@ pub fn plan(
 pub fn floor(n: usize, m: usize, k: usize, scores: &[u16], weights: &[u8], rows: &[u8]) -> Answer
     ensures { FloorGiven (survey_lent n m k scores weights rows) result }
 {
-    let x = call_check::floor_refusal(n, m, k, scores, weights, rows);
+    let x = refusals::floor_refusal(n, m, k, scores, weights, rows);
     if x != 0 {
         return Answer::Refused(x);
     }

@@ -15,7 +15,7 @@ use Rattle.file_calls.specs.Calls.{FileRead}
 
 -- the library's version: the year and the number of the last request that it meets
 abbrev pub version : ℕ
-version = 202607
+version = 202606
 
 -- an answer as one 64-bit number: the total where nothing is refused, else the refusal's number in the upper half and 0 in the lower
 abbrev pub packed : ℕ → ℕ → ℕ

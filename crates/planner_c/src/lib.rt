@@ -47,7 +47,7 @@ fn packed_answer(answer: Answer) -> u64
 pub extern "C" fn planner_version() -> u32
     ensures { result ≡ version }
 {
-    202607
+    202606
 }
 
 // Checks a survey of n streets and m sites of which k are to be chosen; its total is 0.
@@ -134,8 +134,8 @@ pub extern "C" fn planner_balanced_division(
     packed_answer(planner::balanced_division(n, m, scores, weights, rows, sites, division))
 }
 
-// The plan of k sites, free for kind 0 and balanced for kind 1, into buffers of n and of k bytes. A free one starts from the kept sites. In a balanced
-// one every site gets its share, the first chosen sites one street more.
+// The plan of k sites, free for kind 0 and balanced for kind 1, into buffers of n and of k bytes. In a balanced one every site gets its share, the
+// first chosen sites one street more.
 #[unsafe(no_mangle)]
 pub extern "C" fn planner_plan(
     n: usize,
@@ -145,13 +145,12 @@ pub extern "C" fn planner_plan(
     scores: &[u16],
     weights: &[u8],
     rows: &[u8],
-    kept: &[u8],
     division: &mut [u8],
     chosen: &mut [u8],
 ) -> u64
-    ensures { PacksAnswer (Planned (plan_lent n m k kind scores weights rows kept division chosen) (is division) (is chosen)) result }
+    ensures { PacksAnswer (Planned (plan_lent n m k kind scores weights rows division chosen) (is division) (is chosen)) result }
 {
-    packed_answer(planner::plan(n, m, k, kind, scores, weights, rows, kept, division, chosen))
+    packed_answer(planner::plan(n, m, k, kind, scores, weights, rows, division, chosen))
 }
 
 // The floor: what every balanced plan of k sites totals at least.

@@ -1,3 +1,2 @@
 pub mod Orders
 pub mod Unweighted
-pub mod Unkept

@@ -1,8 +1,8 @@
 -- With every weight 1, each plan, division, total and floor is what it is by the scores alone.
 -- Assumes nothing.
 use mathlib.Core.Path.{◌≡◌, refl, sym, ap, ◌∙◌}
-use mathlib.Core.Bool.{true}
-use mathlib.Core.List.{List}
+use mathlib.Core.Bool.{true, false≢true}
+use mathlib.Core.List.{List, []}
 use Prim.Native.Nat.{ℕ, zero, suc, ◌*◌, ◌≤◌, ◌<◌}
 use native.Mathlib.Nat.{one-mul}
 use native.Mathlib.Omega.{arith}
@@ -22,7 +22,6 @@ use Rattle.division.specs.Shares.{share_sum}
 use Rattle.division.proofs.Counts.{division_total-same}
 use Rattle.division.proofs.Shared.{shares_sum}
 use Rattle.division.proofs.Best.{divide-same, divide-length}
-use Rattle.free_plan.specs.Kept.{rounds_left}
 use Rattle.free_plan.proofs.Valued.{AtMost, total-agree, greedy-agree, greedy-most}
 use Rattle.balanced_plan.specs.Rounds.{State, place_key}
 use Rattle.balanced_plan.proofs.Agree.{rounds-agree}
@@ -46,13 +45,13 @@ module _ (t : Town) (ones : Ones t) where
   pub plan-total-plain : (division : List ℕ) → length division ≡ t.n → plan_total t division ≡ plain_plan_total t division
   plan-total-plain division size = division_total-same (value t) (score t) division (λ s l. same s (at division s) (omega arith))
 
-  -- the free plan, from kept sites of which none is above m
-  free-plain : (k : ℕ) (kept : List ℕ) → AtMost t.m kept → free_plan t k kept ≡ plain_free_plan t k kept
-  free-plain k kept low =
-      let j = rounds_left k kept in
-      let sites : free_sites t k kept ≡ plain_free_sites t k kept = greedy-agree (value t) (score t) t.n t.m (λ s a l h. same s a l) j kept low in
-      let few : AtMost t.m (free_sites t k kept) = greedy-most (value t) t.n t.m j kept low in
-      rw (total-plain (free_sites t k kept) few, sites) refl
+  -- the free plan
+  free-plain : (k : ℕ) → free_plan t k ≡ plain_free_plan t k
+  free-plain k =
+      let none : AtMost t.m [] = λ a h. absurd (false≢true h) in
+      let sites : free_sites t k ≡ plain_free_sites t k = greedy-agree (value t) (score t) t.n t.m (λ s a l h. same s a l) k [] none in
+      let few : AtMost t.m (free_sites t k) = greedy-most (value t) t.n t.m k [] none in
+      rw (total-plain (free_sites t k) few, sites) refl
 
   -- the best division over different sites of 1 to m, at least one
   pub division-plain : (sites : List ℕ) → 1 ≤ length sites → Sites t.m sites → distinct sites ≡ true
@@ -88,6 +87,6 @@ module _ (t : Town) (ones : Ones t) where
         rw (reported, division, sites) refl
 
     -- a plan of a kind
-    pub plan-plain : (kind k : ℕ) (kept : List ℕ) → AtMost t.m kept → 1 ≤ k → k ≤ t.m → plan_of_kind kind t k kept ≡ plain_plan_of_kind kind t k kept
-    plan-plain zero k kept low some few = free-plain k kept low
-    plan-plain (suc kind) k kept low some few = balanced-plain k some few
+    pub plan-plain : (kind k : ℕ) → 1 ≤ k → k ≤ t.m → plan_of_kind kind t k ≡ plain_plan_of_kind kind t k
+    plan-plain zero k some few = free-plain k
+    plan-plain (suc kind) k some few = balanced-plain k some few

@@ -1,5 +1,4 @@
 pub mod Plans
 pub mod Best
 pub mod Unweighted
-pub mod Unkept
 pub mod Order

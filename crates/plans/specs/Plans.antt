@@ -1,15 +1,14 @@
 -- The plans of a town: the theory's definitions at the town's values, in document 01's order. An engine says by these what it gives, and a call
 -- what it gives where it is accepted.
 -- Assumes nothing.
-use Rattle.std.specs.Prelude.{ℕ, ◌*◌, List, length}
+use Rattle.std.specs.Prelude.{ℕ, ◌*◌, List, [], length}
 use Rattle.counting.specs.Lists.{has}
 use Rattle.counting.specs.Buffers.{list_of}
 use Rattle.survey.specs.Town.{Town}
 use Rattle.survey.specs.ByKind.{by_kind}
 use Rattle.counting.specs.Bounds.{most_value}
 use Rattle.survey.specs.Rows.{list_of_street, street_place, score_at, value, shortest, least_weight}
-use Rattle.free_plan.specs.Greedy.{total, goes_to}
-use Rattle.free_plan.specs.Kept.{keeping}
+use Rattle.free_plan.specs.Greedy.{total, greedy, goes_to}
 use Rattle.shares.specs.Rounds.{round_share}
 use Rattle.division.specs.Shares.{division_total, shares_of}
 use Rattle.division.specs.Divide.{divide}
@@ -24,9 +23,9 @@ list_total t sites = total (value t) t.n sites
 abbrev pub free_division : Town → List ℕ → List ℕ
 free_division t sites = list_of t.n (λ s. goes_to (λ a. has a sites) (list_of_street t s))
 
--- the free plan's sites, in order of choice: the kept ones in their order, and then those of the rounds
-abbrev pub free_sites : Town → ℕ → List ℕ → List ℕ
-free_sites t k kept = keeping (value t) t.n t.m k kept
+-- the free plan's sites, in order of choice; its division and total are those of this list
+abbrev pub free_sites : Town → ℕ → List ℕ
+free_sites t k = greedy (value t) t.n t.m k []
 
 -- the total of a division: a hand plan's too, where site 0 scores 0
 abbrev pub plan_total : Town → List ℕ → ℕ
@@ -61,21 +60,17 @@ pub record Plan : Type 0 where
   pub division : List ℕ
   pub reported : ℕ
 
--- the free plan with these sites: its division and total are those of the list
-abbrev pub free_plan_over : Town → List ℕ → Plan
-free_plan_over t sites = record { sites = sites; division = free_division t sites; reported = list_total t sites }
-
--- the free plan of k sites that starts from kept ones
-abbrev pub free_plan : Town → ℕ → List ℕ → Plan
-free_plan t k kept = free_plan_over t (free_sites t k kept)
+-- the free plan of k sites
+abbrev pub free_plan : Town → ℕ → Plan
+free_plan t k = record { sites = free_sites t k; division = free_division t (free_sites t k); reported = list_total t (free_sites t k) }
 
 -- the balanced plan of k sites
 abbrev pub balanced_plan : Town → ℕ → Plan
 balanced_plan t k = record { sites = balanced_sites t k; division = balanced_division t (balanced_sites t k); reported = balanced_total t k }
 
--- the plan of k sites of a kind; a balanced one has no kept sites
-abbrev pub plan_of_kind : ℕ → Town → ℕ → List ℕ → Plan
-plan_of_kind kind t k kept = by_kind kind (free_plan t k kept) (balanced_plan t k)
+-- the plan of k sites of a kind
+abbrev pub plan_of_kind : ℕ → Town → ℕ → Plan
+plan_of_kind kind t k = by_kind kind (free_plan t k) (balanced_plan t k)
 
 -- the floor, times the smallest weight
 abbrev pub plan_floor : Town → ℕ → ℕ

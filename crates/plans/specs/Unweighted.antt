@@ -1,12 +1,11 @@
 -- The plans of a town by its scores alone, with no weights, as document 01 has them: what each plan is where every street has the weight 1.
 -- Assumes nothing.
-use Rattle.std.specs.Prelude.{ℕ, ◌<◌, ◌≡◌, List}
+use Rattle.std.specs.Prelude.{ℕ, ◌<◌, ◌≡◌, List, []}
 use Rattle.counting.specs.Lists.{at}
 use Rattle.survey.specs.Town.{Town}
 use Rattle.survey.specs.ByKind.{by_kind}
 use Rattle.survey.specs.Rows.{street_place, score_at, score, shortest}
-use Rattle.free_plan.specs.Greedy.{total}
-use Rattle.free_plan.specs.Kept.{keeping}
+use Rattle.free_plan.specs.Greedy.{total, greedy}
 use Rattle.shares.specs.Rounds.{round_share}
 use Rattle.division.specs.Shares.{division_total}
 use Rattle.division.specs.Divide.{divide}
@@ -25,14 +24,13 @@ plain_total t sites = total (score t) t.n sites
 abbrev pub plain_plan_total : Town → List ℕ → ℕ
 plain_plan_total t division = division_total (score t) division
 
--- the free plan of k sites that starts from kept ones
-abbrev pub plain_free_sites : Town → ℕ → List ℕ → List ℕ
-plain_free_sites t k kept = keeping (score t) t.n t.m k kept
+-- the free plan of k sites
+abbrev pub plain_free_sites : Town → ℕ → List ℕ
+plain_free_sites t k = greedy (score t) t.n t.m k []
 
-abbrev pub plain_free_plan : Town → ℕ → List ℕ → Plan
-plain_free_plan t k kept =
-    let sites : List ℕ = plain_free_sites t k kept in
-    record { sites = sites; division = free_division t sites; reported = plain_total t sites }
+abbrev pub plain_free_plan : Town → ℕ → Plan
+plain_free_plan t k =
+    record { sites = plain_free_sites t k; division = free_division t (plain_free_sites t k); reported = plain_total t (plain_free_sites t k) }
 
 -- the best balanced division over a list of sites
 abbrev pub plain_division : Town → List ℕ → List ℕ
@@ -54,8 +52,8 @@ plain_balanced_plan t k =
     }
 
 -- the plan of k sites of a kind
-abbrev pub plain_plan_of_kind : ℕ → Town → ℕ → List ℕ → Plan
-plain_plan_of_kind kind t k kept = by_kind kind (plain_free_plan t k kept) (plain_balanced_plan t k)
+abbrev pub plain_plan_of_kind : ℕ → Town → ℕ → Plan
+plain_plan_of_kind kind t k = by_kind kind (plain_free_plan t k) (plain_balanced_plan t k)
 
 -- the floor
 abbrev pub plain_floor : Town → ℕ → ℕ

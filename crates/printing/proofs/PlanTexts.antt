@@ -14,9 +14,9 @@ use Rattle.counting.proofs.Refusals.{or-zero, own-pass, or-none}
 use Rattle.survey.specs.Town.{Town}
 use Rattle.survey.specs.Refusals.{streets_refusal, sites_refusal, chosen_refusal, survey_refusal}
 use Rattle.survey_file.proofs.Tries.{both, as-due}
-use Rattle.plans.specs.Unkept.{unkept_plan}
+use Rattle.plans.specs.Plans.{plan_of_kind}
 use Rattle.refusals.specs.Inputs.{PlanInput}
-use Rattle.refusals.specs.Refusals.{buffers_refusal, plan_kind_refusal, unkept_refusal}
+use Rattle.refusals.specs.Refusals.{buffers_refusal, plan_kind_refusal, plan_refusal}
 use Rattle.refusals.proofs.Listed.{called}
 use Rattle.call_answers.specs.declared.Answer.{Answer}
 use Rattle.call_answers.specs.declared.Answer.TheVariants as answer
@@ -78,7 +78,7 @@ module _ {i : PlanInput} (asked : PlanAsked i) where
   buffers-none = both _ _ (as-due 6 (length i.division) i.town.n asked.streets) (as-due 6 (length i.chosen) i.k asked.sites)
 
   -- so that what is tried by the kind decides
-  kind-decides : unkept_refusal i ≡ plan_kind_refusal i.kind i.town.n i.k
+  kind-decides : plan_refusal i ≡ plan_kind_refusal i.kind i.town.n i.k
   kind-decides =
       let tries : ℕ = plan_kind_refusal i.kind i.town.n i.k in
       survey-own i.town i.k _ _ asked.survey.sound ∙ ap (λ (y : ℕ). tries or_else y) buffers-none ∙ or-none tries
@@ -88,6 +88,6 @@ module _ {i : PlanInput} (asked : PlanAsked i) where
       → answer_text r i.town.m i.town.rows chosen division ≡ plan_text i.town i.k i.kind
   unfolding plan_text
   plan-text {r = r} plan =
-      let o = plan.unkept asked.unkept in
-      answered-text r (unkept_refusal i) _ _ _ _ _ _ o.answer o.sites o.streets
-      ∙ ap (λ (y : ℕ). unless_refused y (plan_listing i.town (unkept_plan i.kind i.town i.k))) kind-decides
+      let o = plan.outcome in
+      answered-text r (plan_refusal i) _ _ _ _ _ _ o.answer o.sites o.streets
+      ∙ ap (λ (y : ℕ). unless_refused y (plan_listing i.town (plan_of_kind i.kind i.town i.k))) kind-decides

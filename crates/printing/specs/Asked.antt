@@ -1,6 +1,6 @@
 -- What the functions that print a plan ask for.
 -- Assumes nothing.
-use Rattle.std.specs.Prelude.{ℕ, ◌*◌, ◌≤◌, ◌≡◌, List, [], length, take}
+use Rattle.std.specs.Prelude.{ℕ, ◌*◌, ◌≤◌, ◌≡◌, List, length, take}
 use Rattle.counting.specs.Bounds.{most_streets, most_sites, most_rows}
 use Rattle.survey.specs.Town.{Town, town_of}
 use Rattle.survey.specs.declared.Survey.{Survey}
@@ -11,10 +11,9 @@ use Rattle.refusals.specs.Inputs.{PlanInput}
 pub record SurveyAsked (t : Town) (k kind : ℕ) : Type 0 where
   pub sound : survey_refusal t k (kind_refusal kind) ≡ 0
 
--- the same with no kept sites, and with the plan's two buffers, of the right lengths
+-- the same with the plan's two buffers, of the right lengths
 pub record PlanAsked (i : PlanInput) : Type 0 where
   pub survey : SurveyAsked i.town i.k i.kind
-  pub unkept : i.kept ≡ []
   pub streets : length i.division ≡ i.town.n
   pub sites : length i.chosen ≡ i.k
 

@@ -3,8 +3,7 @@
 use Rattle.std.specs.Prelude.{ℕ, zero, suc, List}
 use Rattle.survey.specs.Town.{Town}
 use Rattle.survey_file.specs.Decode.{file_refusal, town_in, chosen_in, kind_in}
-use Rattle.plans.specs.Plans.{Plan}
-use Rattle.plans.specs.Unkept.{unkept_plan}
+use Rattle.plans.specs.Plans.{Plan, plan_of_kind}
 use Rattle.refusals.specs.Refusals.{plan_kind_refusal}
 use Rattle.call_answers.specs.declared.Answer.{Answer}
 use Rattle.call_answers.specs.declared.Answer.TheVariants as answer
@@ -24,9 +23,9 @@ abbrev pub answer_text : Answer → ℕ → List ℕ → List ℕ → List ℕ �
 answer_text (answer.Total total) m rows sites division = listing m rows total sites division
 answer_text (answer.Refused x) m rows sites division = refused_line x
 
--- the text of an accepted survey: the listing of the plan of its kind, without kept sites, or the line of what that kind is refused for
+-- the text of an accepted survey: the listing of the plan of its kind, or the line of what that kind is refused for
 unfoldable pub plan_text : Town → ℕ → ℕ → List ℕ
-plan_text t k kind = unless_refused (plan_kind_refusal kind t.n k) (plan_listing t (unkept_plan kind t k))
+plan_text t k kind = unless_refused (plan_kind_refusal kind t.n k) (plan_listing t (plan_of_kind kind t k))
 
 -- what is printed for a file: the line of its first refusal, or the text of the survey that it holds
 unfoldable pub printed : List ℕ → List ℕ

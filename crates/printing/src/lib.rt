@@ -1,5 +1,5 @@
 // What the plan program prints for a survey file, written into a buffer.
-ghost use Rattle.std.specs.Prelude.{◌≡◌, [], ◌≤◌, length};
+ghost use Rattle.std.specs.Prelude.{◌≡◌, ◌≤◌, length};
 ghost use Rattle.counting.specs.Buffers.{Written};
 ghost use Rattle.survey.specs.Town.{town_of, was, is, town};
 ghost use Rattle.survey_file.specs.Encode.{most_file};
@@ -40,7 +40,7 @@ fn write_answer(
     }
 }
 
-// The text of an accepted survey; its plan, which keeps no site, is made in the two buffers.
+// The text of an accepted survey; its plan is made in the two buffers.
 fn print_plan(
     n: usize,
     m: usize,
@@ -53,23 +53,11 @@ fn print_plan(
     chosen: &mut [u8],
     out: &mut [u8],
 ) -> usize
-    requires plan_asked { PlanAsked (plan_of (town_of n m scores.now weights.now rows.now) k kind [] division.old chosen.old) }
+    requires plan_asked { PlanAsked (plan_of (town_of n m scores.now weights.now rows.now) k kind division.old chosen.old) }
     requires most_text_in_bounds { most_text ≤ length out.old }
     ensures { Written (was out) 0 (plan_text (town n m scores weights rows) k kind) (is out) result }
 {
-    let none = [0u8; 1];
-    let answer = planner::plan(
-        n,
-        m,
-        k,
-        kind,
-        scores,
-        weights,
-        rows,
-        &none[..0],
-        division,
-        chosen,
-    );
+    let answer = planner::plan(n, m, k, kind, scores, weights, rows, division, chosen);
     write_answer(answer, m, rows, chosen, division, out)
 }
 

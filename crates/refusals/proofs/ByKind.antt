@@ -8,37 +8,28 @@ use lib.ListN.{length}
 use borrow.Author.Tests.{lt-ltb}
 use Rattle.counting.specs.Words.{◌when◌, ◌or_else◌}
 use Rattle.counting.proofs.Refusals.{refuse, or-stop, group}
-use Rattle.survey.specs.Town.{Town}
 use Rattle.survey.specs.Refusals.{share_refusal, length_refusal, survey_refusal}
 use Rattle.survey.proofs.Sound.{own-accepted}
 use Rattle.refusals.specs.Inputs.{PlanInput, HandInput}
-use Rattle.refusals.specs.Refusals.{LoadNumbers, plan_kind_refusal, most_kept, kept_refusal, plan_refusal, free_plan_refusal, balanced_plan_refusal}
+use Rattle.refusals.specs.Refusals.{LoadNumbers, plan_kind_refusal, plan_refusal, free_plan_refusal, balanced_plan_refusal}
 use Rattle.refusals.specs.Refusals.{buffers_refusal, lowest_site, usage_refusal, sent_refusal, hand_by, free_hand_by, balanced_hand_by}
 
 -- a kind that is neither is refused with 4, if none of 1, 2 and 3 comes before it
 other-tries : (kind n k : ℕ) → 1 < kind → plan_kind_refusal kind n k ≡ 4
 other-tries kind n k l = sym (refuse 4 (ltb 1 kind) _ (lit< tt) (lt-ltb 1 kind l))
 
--- whatever is tried behind the survey
-other-first : (t : Town) (k rest : ℕ) → survey_refusal t k 4 or_else rest ≡ survey_refusal t k 4
-other-first t k rest = sym (or-stop (survey_refusal t k 4) _ rest refl (λ z. suc-ne-zero 3 (own-accepted t k 4 z)))
-
 pub plan-other : (i : PlanInput) → 1 < i.kind → plan_refusal i ≡ survey_refusal i.town i.k 4
 unfolding ◌or_else◌
 plan-other i l =
-    ap (λ (x : ℕ). survey_refusal i.town i.k (x or_else buffers_refusal i.town.n i.k i.division i.chosen) or_else rest)
+    ap (λ (x : ℕ). survey_refusal i.town i.k (x or_else buffers_refusal i.town.n i.k i.division i.chosen))
     (other-tries i.kind i.town.n i.k l)
-    ∙ other-first i.town i.k rest
-  where
-    rest : ℕ
-    rest = kept_refusal i.town.m (most_kept i.kind i.k) i.kept
 
 pub hand-other : (loads : LoadNumbers) (i : HandInput) → 1 < i.kind → hand_by loads i ≡ survey_refusal i.town i.k 4
 unfolding ◌or_else◌
 hand-other loads i l =
     ap (λ (x : ℕ). survey_refusal i.town i.k (x or_else length_refusal (length i.division) i.town.n or_else loads.lengths) or_else rest)
     (other-tries i.kind i.town.n i.k l)
-    ∙ other-first i.town i.k rest
+    ∙ sym (or-stop (survey_refusal i.town i.k 4) _ rest refl (λ z. suc-ne-zero 3 (own-accepted i.town i.k 4 z)))
   where
     rest : ℕ
     rest =

@@ -1,4 +1,3 @@
 pub mod Listed
-pub mod PlanCalled
 pub mod ByKind
 pub mod Passed

@@ -21,9 +21,9 @@ use Rattle.survey.specs.Town.{Town}
 use Rattle.survey.specs.Refusals.{share_refusal, length_refusal, survey_refusal}
 use Rattle.survey.specs.Accepted.{Accepted}
 use Rattle.survey.proofs.Sound.{accepted, own-accepted, chosen-within}
-use Rattle.refusals.specs.Inputs.{SurveyInput, ListInput, DivisionInput}
+use Rattle.refusals.specs.Inputs.{SurveyInput, ListInput, DivisionInput, PlanInput}
 use Rattle.refusals.specs.Refusals.{Tried, range_refusal, ranges_refusal, list_refusal, listed_refusal, list_total_refusal, free_division_refusal}
-use Rattle.refusals.specs.Refusals.{balance_refusal, balanced_division_refusal, buffers_refusal, floor_refusal}
+use Rattle.refusals.specs.Refusals.{balance_refusal, balanced_division_refusal, buffers_refusal, plan_kind_refusal, plan_refusal, floor_refusal}
 
 -- ---- sites that are not refused: each is one of 1 to m
 module _ (m : ℕ) (sites : List ℕ) (e : ranges_refusal 1 m sites ≡ 0) where
@@ -38,7 +38,7 @@ module _ (m : ℕ) (sites : List ℕ) (e : list_refusal m sites ≡ 0) where
   list-ranges : ranges_refusal 1 m sites ≡ 0
   list-ranges = (or-zero (ranges_refusal 1 m sites) _ e).0
 
-  pub list-low : (i : ℕ) → at sites i ≤ m
+  list-low : (i : ℕ) → at sites i ≤ m
   list-low i = by_cases (dec_lt i (length sites)) (λ l. (ranges-at m sites list-ranges i l).1) (λ l. omega (arith, at-past sites i (omega arith)))
 
   pub list-sites : Sites m sites
@@ -114,6 +114,19 @@ module _ {i : DivisionInput} {x : ℕ} (tried : Tried balanced_division_refusal 
 
   pub balanced-division-fits : length i.division ≡ i.town.n
   balanced-division-fits = balance-fits i.town.n (length i.sites) i.division (listed-own i.town i.sites _ (passed tried z))
+
+module _ {i : PlanInput} {x : ℕ} (tried : Tried plan_refusal i x) (z : x ≡ 0) where
+  -- its buffers have a place for each street and for each site
+  pub plan-fits : (length i.division ≡ i.town.n) × (length i.chosen ≡ i.k)
+  plan-fits =
+      buffers-fit i.town.n i.k i.division i.chosen
+      (or-zero (plan_kind_refusal i.kind i.town.n i.k) _ (own-accepted i.town i.k _ (passed tried z))).1
+
+  -- so the survey is sound, and there is a place for one site at least and for m at most
+  pub plan-asked : Accepted i.town × (0 < length i.chosen) × (length i.chosen ≤ i.town.m)
+  plan-asked =
+      let call = called i.town i.k _ (passed tried z) in
+      (call.survey, omega (arith, plan-fits.1, call.some), omega (arith, plan-fits.1, call.few))
 
 -- a floor has a sound survey and a number of sites of 1 to m
 pub floor-called : {i : SurveyInput} {x : ℕ} → Tried floor_refusal i x → x ≡ 0 → Called i.town i.k

@@ -54,21 +54,19 @@ division_of t sites division = record { town = t; sites = sites; division = divi
 abbrev pub division_lent : ℕ → ℕ → Lent → Lent → Lent → Lent → Lent → DivisionInput
 division_lent n m scores weights rows sites division = division_of (town n m scores weights rows) (was sites) (was division)
 
--- a plan of k sites of a kind, with the sites that are kept, a buffer for the division and one for the sites
+-- a plan of k sites of a kind, with a buffer for the division and one for the sites
 pub record PlanInput : Type 0 where
   pub town : Town
   pub k : ℕ
   pub kind : ℕ
-  pub kept : List ℕ
   pub division : List ℕ
   pub chosen : List ℕ
 
-abbrev pub plan_of : Town → ℕ → ℕ → List ℕ → List ℕ → List ℕ → PlanInput
-plan_of t k kind kept division chosen = record { town = t; k = k; kind = kind; kept = kept; division = division; chosen = chosen }
+abbrev pub plan_of : Town → ℕ → ℕ → List ℕ → List ℕ → PlanInput
+plan_of t k kind division chosen = record { town = t; k = k; kind = kind; division = division; chosen = chosen }
 
-abbrev pub plan_lent : ℕ → ℕ → ℕ → ℕ → Lent → Lent → Lent → Lent → Lent → Lent → PlanInput
-plan_lent n m k kind scores weights rows kept division chosen =
-    plan_of (town n m scores weights rows) k kind (was kept) (was division) (was chosen)
+abbrev pub plan_lent : ℕ → ℕ → ℕ → ℕ → Lent → Lent → Lent → Lent → Lent → PlanInput
+plan_lent n m k kind scores weights rows division chosen = plan_of (town n m scores weights rows) k kind (was division) (was chosen)
 
 -- a hand-made plan of k sites of a kind: a site for each street, the total that is claimed, and what the streets bring to their sites
 pub record HandInput : Type 0 where

@@ -81,35 +81,20 @@ buffers_refusal n k division chosen = length_refusal (length division) n or_else
 abbrev pub plan_kind_refusal : ℕ → ℕ → ℕ → ℕ
 plan_kind_refusal kind n k = kind_refusal kind or_else by_kind kind 0 (share_refusal n k)
 
--- how many sites a plan of k sites may keep: k where it is free, and none where it is balanced
-abbrev pub most_kept : ℕ → ℕ → ℕ
-most_kept kind k = by_kind kind k 0
-
--- the kept sites of a plan: 17 all through, 20, then 26 for more of them than it may keep
-abbrev pub kept_refusal : ℕ → ℕ → List ℕ → ℕ
-kept_refusal m most kept = list_refusal m kept or_else 26 when ltb most (length kept)
-
--- what a plan is tried for besides its kept sites
-abbrev pub unkept_refusal : PlanInput → ℕ
-unkept_refusal i =
+-- plan
+abbrev pub plan_refusal : PlanInput → ℕ
+plan_refusal i =
     survey_refusal i.town i.k
     (plan_kind_refusal i.kind i.town.n i.k or_else buffers_refusal i.town.n i.k i.division i.chosen)
 
--- plan
-abbrev pub plan_refusal : PlanInput → ℕ
-plan_refusal i = unkept_refusal i or_else kept_refusal i.town.m (most_kept i.kind i.k) i.kept
-
 -- its cases: free plan
 abbrev pub free_plan_refusal : PlanInput → ℕ
-free_plan_refusal i =
-    survey_refusal i.town i.k (buffers_refusal i.town.n i.k i.division i.chosen) or_else
-    kept_refusal i.town.m i.k i.kept
+free_plan_refusal i = survey_refusal i.town i.k (buffers_refusal i.town.n i.k i.division i.chosen)
 
 -- and balanced plan
 abbrev pub balanced_plan_refusal : PlanInput → ℕ
 balanced_plan_refusal i =
-    survey_refusal i.town i.k (share_refusal i.town.n i.k or_else buffers_refusal i.town.n i.k i.division i.chosen) or_else
-    kept_refusal i.town.m 0 i.kept
+    survey_refusal i.town i.k (share_refusal i.town.n i.k or_else buffers_refusal i.town.n i.k i.division i.chosen)
 
 -- floor
 abbrev pub floor_refusal : SurveyInput → ℕ

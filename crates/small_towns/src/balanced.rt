@@ -2,12 +2,10 @@
 ghost use Rattle.std.specs.Prelude.{◌≤◌};
 ghost use Rattle.drawn_towns.specs.Small.{Small};
 
-use crate::entries;
+use crate::answers::{Given, UNTOUCHED};
+use crate::{answers, entries};
 use drawn_towns::{SITES, Town};
-use plain_search::plans::Given;
-use plain_search::sets::UNTOUCHED;
-use plain_search::{floors, plans};
-use town_answers::answers;
+use plain_search::{divisions, floors, rounds};
 
 // Whether the streets are too few to give each of the k sites one.
 fn is_short(town: Town) -> bool
@@ -16,14 +14,36 @@ fn is_short(town: Town) -> bool
     town.n < town.k
 }
 
+// The best division over the town's list, with what stands among the chosen sites.
+fn best(town: Town, chosen: [u8; SITES]) -> Given
+    requires { Small town }
+{
+    let found = divisions::best_division(town);
+    let division = found.division;
+    Given {
+        total: found.total,
+        refused: 0,
+        division,
+        chosen,
+    }
+}
+
 // The division that is right for the town's list.
 fn right_division(town: Town) -> Given
     requires { Small town }
 {
     if is_short(town) {
-        return plans::plain(0, 5);
+        return answers::plain(0, 5);
     }
-    plans::balanced(town, [UNTOUCHED; SITES])
+    best(town, [UNTOUCHED; SITES])
+}
+
+// The plan that is right for the town, if the streets are enough: the sites of the rounds, and the best division over them.
+pub fn right_plan(town: Town) -> Given
+    requires { Small town }
+{
+    let chosen = rounds::sites(town);
+    best(drawn_towns::listing(town, chosen, town.k), chosen)
 }
 
 // The floor that is right for the town.
@@ -31,9 +51,9 @@ fn right_floor(town: Town) -> Given
     requires { Small town }
 {
     if is_short(town) {
-        return plans::plain(0, 5);
+        return answers::plain(0, 5);
     }
-    plans::plain(floors::floor(town), 0)
+    answers::plain(floors::floor(town), 0)
 }
 
 // 1 where the division over the town's list is not right, else 0.

@@ -3,14 +3,12 @@ ghost use Rattle.std.specs.Prelude.{◌≤◌};
 ghost use Rattle.drawn_towns.specs.Sized.{Sized};
 ghost use Rattle.drawn_towns.specs.Small.{Small};
 
+use crate::answers;
+use crate::answers::{Given, UNTOUCHED};
 use drawn_towns::asked::Asked;
 use drawn_towns::loads::Loads;
 use drawn_towns::{SITES, STREETS, Town};
-use plain_search::plans;
-use plain_search::plans::Given;
-use plain_search::sets::UNTOUCHED;
 use planner::Answer;
-use town_answers::answers;
 
 // A division over a list, balanced or free.
 fn divided(
@@ -56,11 +54,32 @@ pub fn division(town: Town, balanced: bool) -> Given
     answers::told(answer, division, [UNTOUCHED; SITES])
 }
 
-// The plan that is asked for, over a town's survey, with no kept sites.
+// The plan that is asked for, over a town's survey, with buffers for its streets and its k sites.
 pub fn plan(town: Town, asked: Asked) -> Given
     requires { Small town }
 {
-    town_answers::plan(town, asked, b"")
+    let n = town.n;
+    let m = town.m;
+    let len = town.len;
+    let k = town.k;
+    let w = town.weighed;
+    let scores = town.scores;
+    let weights = town.weights;
+    let rows = town.rows;
+    let mut division = [UNTOUCHED; STREETS];
+    let mut chosen = [UNTOUCHED; SITES];
+    let answer = planner::plan(
+        asked.n,
+        asked.m,
+        asked.k,
+        asked.kind,
+        &scores[..m],
+        &weights[..w],
+        &rows[..len],
+        &mut division[..n],
+        &mut chosen[..k],
+    );
+    answers::told(answer, division, chosen)
 }
 
 // The total of a town's list.
@@ -118,7 +137,7 @@ pub fn check(town: Town) -> Given
         &weights[..w],
         &rows[..len],
     );
-    plans::plain(0, answers::number_of(answer))
+    answers::plain(0, answers::number_of(answer))
 }
 
 // How many entries of a buffer are lent: all of them, or one fewer.

@@ -2,18 +2,38 @@
 ghost use Rattle.std.specs.Prelude.{◌≤◌};
 ghost use Rattle.drawn_towns.specs.Small.{Small};
 
-use crate::entries;
+use crate::answers::{Given, UNTOUCHED};
+use crate::{answers, entries};
 use drawn_towns::{SITES, Town};
-use plain_search::sets::UNTOUCHED;
-use plain_search::{plans, sets};
-use town_answers::answers;
+use plain_search::sets;
+
+// The plan that is right for the town: the sites of the greedy rounds, and where the streets go among them.
+pub fn right_plan(town: Town) -> Given
+    requires { Small town }
+{
+    let choice = sets::greedy(town);
+    let set = choice.set;
+    let chosen = choice.sites;
+    Given {
+        total: sets::set_total(town, set),
+        refused: 0,
+        division: sets::division(town, set),
+        chosen,
+    }
+}
 
 // 1 where the free division over the town's list is another one, else 0.
 pub fn wrong_division(town: Town, shown: bool) -> u64
     requires { Small town }
     ensures { result ≤ 1 }
 {
-    let right = plans::free(town, sets::listed(town), [UNTOUCHED; SITES]);
+    let set = sets::listed(town);
+    let right = Given {
+        total: sets::set_total(town, set),
+        refused: 0,
+        division: sets::division(town, set),
+        chosen: [UNTOUCHED; SITES],
+    };
     answers::wrong(town, entries::division(town, false), right, shown)
 }
 
@@ -22,6 +42,6 @@ pub fn wrong_total(town: Town, shown: bool) -> u64
     requires { Small town }
     ensures { result ≤ 1 }
 {
-    let right = plans::plain(sets::set_total(town, sets::listed(town)), 0);
+    let right = answers::plain(sets::set_total(town, sets::listed(town)), 0);
     answers::wrong(town, entries::list_total(town), right, shown)
 }

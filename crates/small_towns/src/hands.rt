@@ -3,13 +3,12 @@
 ghost use Rattle.std.specs.Prelude.{◌≤◌};
 ghost use Rattle.drawn_towns.specs.Small.{Small};
 
+use crate::answers::Given;
 use crate::loads::NUMBERS;
-use crate::{entries, loads};
+use crate::{answers, entries, loads};
 use drawn_towns::asked::Asked;
 use drawn_towns::{SITES, STREETS, Town};
-use plain_search::plans::Given;
-use plain_search::{plans, scores};
-use town_answers::answers;
+use plain_search::scores;
 
 // How many answers about a plan are wrong: without loads, and with drawn ones.
 fn wrong_test(
@@ -44,7 +43,7 @@ fn wrong_own(town: Town, asked: Asked, plan: Given, shown: bool) -> u64
         plan.total,
         drawn_towns::loads::none(),
     );
-    let right = plans::plain(plan.total, plan.refused);
+    let right = answers::plain(plan.total, plan.refused);
     answers::wrong(town, given, right, shown)
 }
 

@@ -2,12 +2,10 @@
 ghost use Rattle.std.specs.Prelude.{◌≤◌};
 ghost use Rattle.drawn_towns.specs.Small.{Small};
 
+use crate::answers::UNTOUCHED;
 use crate::loads::NUMBERS;
-use crate::{entries, loads};
+use crate::{answers, entries, loads, say};
 use drawn_towns::{STREETS, Town, asked};
-use plain_search::plans;
-use plain_search::sets::UNTOUCHED;
-use town_answers::{answers, say};
 
 // How many answers about a plan and a hand plan of the wrong kind that has its turn are wrong. The number that is right is counted.
 pub fn wrong_kinds(numbers: &mut [u64; NUMBERS], town: Town, turn: u64, shown: bool) -> u64
@@ -18,7 +16,7 @@ pub fn wrong_kinds(numbers: &mut [u64; NUMBERS], town: Town, turn: u64, shown: b
     let refused = plain_search::asked::refusal(asked);
     let x = refused as usize;
     numbers[x] = std::num::wrapping_add_u64(numbers[x], 1);
-    let right = plans::plain(0, refused);
+    let right = answers::plain(0, refused);
     let plan = entries::plan(town, asked);
     let hand = entries::hand(
         town,

@@ -3,13 +3,12 @@ ghost use Rattle.std.specs.Prelude.{◌≤◌};
 ghost use Rattle.drawn_towns.specs.Sized.{Sized};
 ghost use Rattle.drawn_towns.specs.Small.{Small};
 
-use crate::entries;
+use crate::answers::Given;
+use crate::{answers, entries, say};
 use drawn_towns::asked::Asked;
 use drawn_towns::loads::Loads;
 use drawn_towns::{STREETS, Town};
-use plain_search::plans::Given;
-use plain_search::{hands, loads, plans};
-use town_answers::{answers, say};
+use plain_search::{hands, loads};
 
 // how often each number was given is a table by that number, 0 for no refusal
 pub const NUMBERS: usize = 256;
@@ -26,9 +25,9 @@ pub fn right_answer(
 {
     let x = hands::refusal(town, asked, division, claimed, loads);
     if x == 0 {
-        return plans::plain(claimed, 0);
+        return answers::plain(claimed, 0);
     }
-    plans::plain(0, x)
+    answers::plain(0, x)
 }
 
 // Whether what is given with loads keeps to what is given without: it is the same where no load or limit is refused and each site's two sums are

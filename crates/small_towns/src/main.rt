@@ -7,8 +7,8 @@ ghost use Rattle.small_towns.specs.Counted.{Counted};
 use drawn_towns::Town;
 use loads::NUMBERS;
 use sizes::Sizes;
-use town_answers::say;
 
+mod answers;
 mod balanced;
 mod entries;
 mod free;
@@ -17,6 +17,7 @@ mod kinds;
 mod loads;
 mod plans;
 mod rows;
+mod say;
 mod sizes;
 mod surveys;
 mod weights;

@@ -2,19 +2,33 @@
 ghost use Rattle.std.specs.Prelude.{◌≤◌};
 ghost use Rattle.drawn_towns.specs.Small.{Small};
 
+use crate::answers::Given;
 use crate::loads::NUMBERS;
-use crate::{entries, hands};
+use crate::{answers, balanced, entries, free, hands};
+use drawn_towns::asked::Asked;
 use drawn_towns::{Town, asked, weights};
-use plain_search::plans::Given;
-use plain_search::{bounds, plans, rounds};
-use town_answers::answers;
+use plain_search::{rounds, sets};
+
+// The plan that is right for a town.
+fn right_plan(town: Town, asked: Asked) -> Given
+    requires { Small town }
+{
+    let x = plain_search::asked::refusal(asked);
+    if x != 0 {
+        return answers::plain(0, x);
+    }
+    if asked.kind == 0 {
+        return free::right_plan(town);
+    }
+    balanced::right_plan(town)
+}
 
 // Whether a plan's total keeps the bound of its kind: a free plan is near the best k sites, and a balanced one has the floor at least.
 fn keeps_bound(town: Town, kind: usize, total: u32) -> bool
     requires { Small town }
 {
     if kind == 0 {
-        return bounds::is_kept(town, b"", total);
+        return sets::is_near(town.k, sets::best_total(town), total);
     }
     let floor = entries::floor(town);
     floor.total <= total
@@ -50,7 +64,7 @@ pub fn wrong_plans(
 {
     let asked = asked::of_kind(town, kind);
     let plan = entries::plan(town, asked);
-    let mut count = answers::wrong(town, plan, plans::right_plan(town, asked, b""), shown);
+    let mut count = answers::wrong(town, plan, right_plan(town, asked), shown);
     count = count + answers::fails(town, keeps_bound(town, kind, plan.total), shown);
     count = count + answers::fails(town, keeps_sites(town, kind, plan), shown);
     count + hands::wrong_hands(seed, numbers, town, asked, plan, shown)

@@ -2,29 +2,29 @@
 ghost use Rattle.std.specs.Prelude.{◌+◌, ◌≤◌};
 ghost use Rattle.drawn_towns.specs.Small.{Small};
 
+use crate::answers;
 use drawn_towns::Town;
 use plain_files::surveys;
-use plain_search::{plans, scores};
-use town_answers::answers;
+use plain_search::scores;
 
 // the sites from 0 on that each row is tried with
 const TRIED: usize = 7;
 
 // What the entry must give: the counted score, 24 for a weight outside 1 to 99, and then 17 for a site outside 1 to m.
-fn right_answer(town: Town, s: usize, site: u8) -> plans::Given
+fn right_answer(town: Town, s: usize, site: u8) -> answers::Given
     requires { Small town × (s ≤ 7) }
 {
     let x = surveys::weight_refusal(town.weights[s]);
     if x != 0 {
-        return plans::plain(0, x);
+        return answers::plain(0, x);
     }
     if site == 0 {
-        return plans::plain(0, 17);
+        return answers::plain(0, 17);
     }
     if town.m < site as usize {
-        return plans::plain(0, 17);
+        return answers::plain(0, 17);
     }
-    plans::plain(scores::counted(town, s, site), 0)
+    answers::plain(scores::counted(town, s, site), 0)
 }
 
 // 1 where the score that street s gives a site is another one, else 0.

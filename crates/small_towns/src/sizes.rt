@@ -3,8 +3,8 @@ ghost use Rattle.std.specs.Prelude.{◌≡◌, ◌+◌, ◌≤◌};
 ghost use Rattle.drawn_towns.specs.Small.{Small};
 ghost use Rattle.small_towns.specs.Counted.{Counted};
 
+use crate::say;
 use drawn_towns::{SITES, STREETS, Town};
-use town_answers::say;
 
 // 1 to 8 streets, and for each of these 1 to 5 sites to choose
 const PAIRS: usize = STREETS * SITES;

@@ -2,11 +2,9 @@
 ghost use Rattle.std.specs.Prelude.{◌≤◌};
 ghost use Rattle.drawn_towns.specs.Small.{Small};
 
-use crate::entries;
+use crate::{answers, entries};
 use drawn_towns::{Town, changes};
 use plain_files::surveys;
-use plain_search::plans;
-use town_answers::answers;
 
 // The number that is right for a town's survey.
 fn right_number(town: Town) -> u8
@@ -25,7 +23,7 @@ fn wrong_check(town: Town, shown: bool) -> u64
     requires { Small town }
     ensures { result ≤ 1 }
 {
-    let right = plans::plain(0, right_number(town));
+    let right = answers::plain(0, right_number(town));
     answers::wrong(town, entries::check(town), right, shown)
 }
 

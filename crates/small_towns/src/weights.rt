@@ -3,17 +3,15 @@
 ghost use Rattle.std.specs.Prelude.{◌≤◌};
 ghost use Rattle.drawn_towns.specs.Small.{Small};
 
-use crate::{entries, rows};
-use drawn_towns::{STREETS, Town, asked, changes, weights};
-use plain_search::plans;
-use town_answers::answers;
+use crate::{answers, entries, rows};
+use drawn_towns::{STREETS, Town, asked, weights};
 
 // How many calls that are given no kind do not refuse a town with this number.
 fn wrong_calls(town: Town, number: u8, shown: bool) -> u64
     requires { Small town }
     ensures { result ≤ 5 }
 {
-    let right = plans::plain(0, number);
+    let right = answers::plain(0, number);
     let mut count = answers::wrong(town, entries::check(town), right, shown);
     count = count + answers::wrong(town, entries::list_total(town), right, shown);
     count = count + answers::wrong(town, entries::division(town, false), right, shown);
@@ -27,7 +25,7 @@ fn wrong_of_kind(town: Town, kind: usize, number: u8, shown: bool) -> u64
     ensures { result ≤ 2 }
 {
     let asked = asked::of_kind(town, kind);
-    let right = plans::plain(0, number);
+    let right = answers::plain(0, number);
     let loads = drawn_towns::loads::none();
     let hand = entries::hand(town, asked, [1; STREETS], 0, loads);
     let count = answers::wrong(town, entries::plan(town, asked), right, shown);
@@ -76,6 +74,16 @@ fn with_wrong_score(town: Town) -> Town
     other
 }
 
+// The town with a site above m in the first row.
+fn with_wrong_row(town: Town) -> Town
+    requires { Small town }
+    ensures { Small result }
+{
+    let mut other = town;
+    other.rows[0] = 255;
+    other
+}
+
 // How many calls about a town with a weight too few or too many do not refuse with 6, whatever else is wrong.
 fn wrong_counts(town: Town, shown: bool) -> u64
     requires { Small town }
@@ -91,7 +99,7 @@ fn wrong_turns(town: Town, shown: bool) -> u64
     requires { Small town }
     ensures { result ≤ 18 }
 {
-    let weightless = weights::with_weight(changes::with_wrong_row(town), town.n - 1, 0);
+    let weightless = weights::with_weight(with_wrong_row(town), town.n - 1, 0);
     wrong_everywhere(weightless, 24, shown)
         + wrong_everywhere(with_wrong_score(weightless), 8, shown)
 }

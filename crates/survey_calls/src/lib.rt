@@ -40,7 +40,7 @@ pub fn ranked_part(row: &[u8]) -> &[u8]
 pub fn row_score(m: usize, scores: &[u16], weight: u8, row: &[u8], site: u8) -> Answer
     ensures { RowScored (row_lent m scores weight row site) result }
 {
-    let x = call_check::row_score_refusal(m, scores, weight, row, site);
+    let x = refusals::row_score_refusal(m, scores, weight, row, site);
     if x != 0 {
         return Answer::Refused(x);
     }

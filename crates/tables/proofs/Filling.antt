@@ -20,7 +20,7 @@ use Rattle.survey.specs.Rows.{row_at, ranked_part, place_in, place_of}
 use Rattle.survey.specs.Accepted.{SoundRow, Accepted}
 use Rattle.survey.proofs.RowLoops.{ranked-stop, ranked-more, ranked-all, row-part}
 use Rattle.survey.proofs.Places.{place_none, place-new, place-old}
-use Rattle.tables.specs.Entries.{Ranked, by_site, by_street, Layout, Room, Unread, Entered, Begun}
+use Rattle.tables.specs.Entries.{Ranked, by_site, by_street, Layout, Room, Unread, Entered}
 
 -- an accepted survey's rows rank the sites
 pub ranked : {t : Town} → Accepted t → Ranked t.n t.m t.rows
@@ -49,48 +49,17 @@ by-street n m =
     }
 
 -- ---- one street
--- the first bytes of its row are read, beginning with none
-pub begun-none : (f own : ℕ → ℕ) (row table : List ℕ) → Unread f own (length row) table → Begun f own row table 0
-begun-none f own row table h = record { front = refl; right = λ a l. h a l ∙ ap f (sym (place_none [] a refl)) }
-
-module _ {f own : ℕ → ℕ} {row table : List ℕ} {j : ℕ} (p : Begun f own row table j) where
-  -- a store elsewhere changes nothing
-  pub begun_kept : (i x : ℕ) → ((a : ℕ) → a ≤ length row → own a ≢ i) → Begun f own row (set table i x) j
-  begun_kept i x d = record { front = p.front; right = λ a u. get_or-set_other table i (own a) x 0 (d a u) ∙ p.right a u }
-
-  module _ (ok : SoundRow (length row) row) (apart : (a b : ℕ) → a ≤ length row → b ≤ length row → a ≢ b → own a ≢ own b) where
-    -- a site gets the entry of the next place, and every other site keeps its own
-    right-more : (list : List ℕ) (b x : ℕ) → b ≤ length row → x ≡ f (length list + 1) → has b list ≡ false → own b < length table
-        → ((a : ℕ) → a ≤ length row → at table (own a) ≡ f (place_in list a))
-        → (a : ℕ) → a ≤ length row → at (set table (own b) x) (own a) ≡ f (place_in (list ++ (b ∷ [])) a)
-    right-more list b x low e new l h a u =
-        by_cases (ℕ_discrete a b) (λ q. rw q (get_or-set_same table (own b) x 0 l ∙ e ∙ ap f (sym (place-new list b new))))
-        (λ d. get_or-set_other table (own b) (own a) x 0 (apart a b u low d) ∙ h a u ∙ ap f (sym (place-old list b a d)))
-
-    -- one byte more, which is a site
-    pub begun_more : (x : ℕ) → x ≡ f (j + 1) → j < length row → (at row j ≡ 0 → ⊥) → own (at row j) < length table
-        → Begun f own row (set table (own (at row j)) x) (j + 1)
-    begun_more x e l z room =
-        let new : has (at row j) (take j row) ≡ false = ok.once j l (omega arith) in
-        let count : length (take j row) ≡ j = length-take-le j row (omega arith) in
-        record {
-          front = ranked-more row j l p.front z;
-          right = rw (take_next row j l) (right-more (take j row) (at row j) x (ok.named j l) (rw count e) new room p.right);
-        }
-
 -- the loop over a row has passed the first j bytes, of which none is 0
 pub record Passed (f own : ℕ → ℕ) (row before table : List ℕ) (j : ℕ) : Type 0 where
   pub size : length table ≡ length before
-  pub begun : Begun f own row table j
+  pub front : ranked_part row ≡ take j row ++ ranked_part (drop j row)
+  pub right : (a : ℕ) → a ≤ length row → at table (own a) ≡ f (place_in (take j row) a)
   pub others : (i : ℕ) → ((a : ℕ) → a ≤ length row → i ≢ own a) → at table i ≡ at before i
 
--- it starts with the bytes that are read already
-pub passed-from : {f own : ℕ → ℕ} {row before : List ℕ} {j : ℕ} → Begun f own row before j → Passed f own row before before j
-passed-from p = record { size = refl; begun = p; others = λ i d. refl }
-
--- or with the entries of no place
+-- it starts with the entries of no place
 pub passed_none : (f own : ℕ → ℕ) (row before : List ℕ) → Unread f own (length row) before → Passed f own row before before 0
-passed_none f own row before h = passed-from (begun-none f own row before h)
+passed_none f own row before h =
+    record { size = refl; front = refl; right = λ a l. h a l ∙ ap f (sym (place_none [] a refl)); others = λ i d. refl }
 
 module _ {f own : ℕ → ℕ} {row before table : List ℕ} {j : ℕ} (ok : SoundRow (length row) row) (room : Room own (length row) before)
     (p : Passed f own row before table j) where
@@ -98,25 +67,38 @@ module _ {f own : ℕ → ℕ} {row before table : List ℕ} {j : ℕ} (ok : Sou
   pub passed-room : j < length row → (own (at row j) < length table) × (length table ≤ most_entries)
   passed-room l = (omega (arith, room.within (at row j) (ok.named j l), p.size), omega (arith, room.size, p.size))
 
+  -- a site gets the entry of the next place, and every other site keeps its own
+  right-more : (list : List ℕ) (b x : ℕ) → b ≤ length row → x ≡ f (length list + 1) → has b list ≡ false → own b < length table
+      → ((a : ℕ) → a ≤ length row → at table (own a) ≡ f (place_in list a))
+      → (a : ℕ) → a ≤ length row → at (set table (own b) x) (own a) ≡ f (place_in (list ++ (b ∷ [])) a)
+  right-more list b x low e new l h a u =
+      by_cases (ℕ_discrete a b) (λ q. rw q (get_or-set_same table (own b) x 0 l ∙ e ∙ ap f (sym (place-new list b new))))
+      (λ d. get_or-set_other table (own b) (own a) x 0 (room.apart a b u low d) ∙ h a u ∙ ap f (sym (place-old list b a d)))
+
   -- one byte more, which is a site
   pub passed-more : (x : ℕ) → x ≡ f (j + 1) → j < length row → (at row j ≡ 0 → ⊥) → Passed f own row before (set table (own (at row j)) x) (j + 1)
   passed-more x e l z =
+      let b : ℕ = at row j in
+      let low : b ≤ length row = ok.named j l in
+      let new : has b (take j row) ≡ false = ok.once j l (omega arith) in
+      let count : length (take j row) ≡ j = length-take-le j row (omega arith) in
       record {
-        size = length-set table (own (at row j)) x ∙ p.size;
-        begun = begun_more p.begun ok room.apart x e l z (passed-room l).0;
-        others = λ i d. get_or-set_other table (own (at row j)) i x 0 (d (at row j) (ok.named j l)) ∙ p.others i d;
+        size = length-set table (own b) x ∙ p.size;
+        front = ranked-more row j l p.front z;
+        right = rw (take_next row j l) (right-more (take j row) b x low (rw count e) new (passed-room l).0 p.right);
+        others = λ i d. get_or-set_other table (own b) i x 0 (d b low) ∙ p.others i d;
       }
 
   -- a zero: the passed bytes are the ranked part
   pub passed-stop : j < length row → at row j ≡ 0 → Entered f own row before table
-  passed-stop l z = record { right = rw (ranked-stop row j l p.begun.front z) at p.begun.right; others = p.others }
+  passed-stop l z = record { right = rw (ranked-stop row j l p.front z) at p.right; others = p.others }
 
   -- so they are at the end of the row
   pub passed-all : (e : ℕ) → e ≤ j → j ≤ e → e ≡ length row → Entered f own row before table
   passed-all e a b q =
       let end : j ≡ length row = omega arith in
-      let whole : take j row ≡ ranked_part row = rw (end, take-length) (ranked-all row j e a b q p.begun.front) in
-      record { right = rw whole at p.begun.right; others = p.others }
+      let whole : take j row ≡ ranked_part row = rw (end, take-length) (ranked-all row j e a b q p.front) in
+      record { right = rw whole at p.right; others = p.others }
 
 -- ---- the table
 -- the loop over the streets has filled the entries of the first s, where `f` is of the street and the place, and no other row is read yet

@@ -1,10 +1,10 @@
 -- The words for a table that is filled from the rows: it keeps an entry for each street and each of the sites 0, 1, .., m. The entry of a
 -- street at a site is `f` of the site's place in the street's row, and `f 0` where it has none.
 -- Assumes nothing.
-use Rattle.std.specs.Prelude.{◌≡◌, ◌≢◌, List, ◌++◌, ℕ, ◌+◌, ◌*◌, ◌≤◌, ◌<◌, length, take, drop}
+use Rattle.std.specs.Prelude.{◌≡◌, ◌≢◌, List, ℕ, ◌+◌, ◌*◌, ◌≤◌, ◌<◌, length}
 use Rattle.counting.specs.Bounds.{most_streets, most_sites, most_entries}
 use Rattle.counting.specs.Lists.{at}
-use Rattle.survey.specs.Rows.{row_at, ranked_part, place_in, place_of}
+use Rattle.survey.specs.Rows.{row_at, place_of}
 use Rattle.survey.specs.Accepted.{SoundRow}
 
 -- the rows of an accepted survey: all that the places are read from
@@ -43,8 +43,3 @@ Unread f own m table = (a : ℕ) → a ≤ m → at table (own a) ≡ f 0
 pub record Entered (f own : ℕ → ℕ) (row before after : List ℕ) : Type 0 where
   pub right : (a : ℕ) → a ≤ length row → at after (own a) ≡ f (place_of row a)
   pub others : (i : ℕ) → ((a : ℕ) → a ≤ length row → i ≢ own a) → at after i ≡ at before i
-
--- the first j bytes of a street's row are read, none of them 0: each of its entries is that of the site's place among them
-pub record Begun (f own : ℕ → ℕ) (row table : List ℕ) (j : ℕ) : Type 0 where
-  pub front : ranked_part row ≡ take j row ++ ranked_part (drop j row)
-  pub right : (a : ℕ) → a ≤ length row → at table (own a) ≡ f (place_in (take j row) a)

@@ -1,10 +1,10 @@
 -- The worked table: one computed test of all its lines, and from it what each line says as equations of the definitions.
 -- Assumes nothing.
-use mathlib.Core.Path.{◌≡◌, refl, sym, ◌∙◌}
+use mathlib.Core.Path.{◌≡◌, refl, sym}
 use mathlib.Core.Bool.{Bool, true, false, ◌&&◌, true≢false}
 use mathlib.Core.List.{List, [], ◌∷◌}
 use Prim.Native.Nat.{ℕ, zero, suc}
-use native.Mathlib.Nat.{suc-ne-zero, sub-zero}
+use native.Mathlib.Nat.{suc-ne-zero}
 use lib.Dec.{eqb}
 use borrow.Author.Tests.{eqb-true, leb-true}
 use Rattle.counting.specs.Words.{◌when◌, ◌unless◌, ◌or_else◌, first_of}
@@ -82,22 +82,22 @@ module _ (i : SurveyInput) where
 
   -- a line of a plan that is not refused
   pub plan-line : (kind total : ℕ) (division chosen : List ℕ) → Holds (OfKind kind i 0 total division chosen)
-      → let p = plan_of_kind kind i.town i.k [] in (p.sites ≡ chosen) × (p.division ≡ division) × (p.reported ≡ total)
+      → let p = plan_of_kind kind i.town i.k in (p.sites ≡ chosen) × (p.division ≡ division) × (p.reported ≡ total)
   plan-line kind total division chosen (none, (reported, (streets, (sites, end)))) =
-      let x : ℕ = plan_refusal (plan_of i.town i.k kind [] streets-blank sites-blank) in
+      let x : ℕ = plan_refusal (plan_of i.town i.k kind streets-blank sites-blank) in
       (new-bytes x _ sites-blank none sites, new-bytes x _ streets-blank none streets, told-total x _ none reported)
 
 -- P3: sites 3, 1, total 5, street 6 unserved
 abbrev town : Town
 town = p3.town
 
-pub p3-free : (free_sites town 2 [] ≡ 3 ∷ 1 ∷ []) × (free_division town (free_sites town 2 []) ≡ 1 ∷ 1 ∷ 1 ∷ 3 ∷ 3 ∷ 0 ∷ [])
-    × (list_total town (free_sites town 2 []) ≡ 5)
+pub p3-free : (free_sites town 2 ≡ 3 ∷ 1 ∷ []) × (free_division town (free_sites town 2) ≡ 1 ∷ 1 ∷ 1 ∷ 3 ∷ 3 ∷ 0 ∷ [])
+    × (list_total town (free_sites town 2) ≡ 5)
 p3-free = plan-line p3 0 _ _ _ all_hold.1.1.1.1.0
 
--- sites 1, 2 give 6, which is as much above what no site gives
+-- sites 1, 2 give 6
 pub p3-other : (list_total town (1 ∷ 2 ∷ []) ≡ 6)
-p3-other = sym (sub-zero (list_total town (1 ∷ 2 ∷ []))) ∙ all_hold.1.1.1.1.1.0.1.0
+p3-other = all_hold.1.1.1.1.1.0.1.0
 
 -- P4: sites 1, 2, total 6
 pub p4-balanced : (balanced_sites town 2 ≡ 1 ∷ 2 ∷ []) × (balanced_division town (balanced_sites town 2) ≡ 1 ∷ 1 ∷ 1 ∷ 2 ∷ 2 ∷ 2 ∷ [])

@@ -3,5 +3,4 @@ pub mod Towns
 pub mod Loaded
 pub mod Weighted
 pub mod WeightedFiles
-pub mod Kept
 pub mod Table

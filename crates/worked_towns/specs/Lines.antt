@@ -14,7 +14,6 @@ use Rattle.loads.specs.Loads.{Loads, loads_of, most_load}
 use Rattle.refusals.specs.Inputs.{SurveyInput, survey_of, row_input_of, list_input_of, division_of, plan_of, hand_of, write_of, convert_of}
 use Rattle.refusals.specs.Refusals.{check_refusal, row_score_refusal, list_total_refusal, free_division_refusal, balanced_division_refusal, plan_refusal}
 use Rattle.refusals.specs.Refusals.{floor_refusal, hand_refusal, write_refusal, convert_refusal}
-use Rattle.free_plan.specs.Kept.{rounds_left}
 use Rattle.plans.specs.Plans.{list_total, free_division, free_sites, plan_total, balanced_division, balanced_rounds, Plan, plan_of_kind, plan_floor}
 
 -- a town with the number of sites to choose: n, m, K, scores, weights, rows
@@ -33,8 +32,8 @@ pub data Line : Type 0 where
   ListTotal : SurveyInput → List ℕ → ℕ → ℕ → Line
   FreeDivision : SurveyInput → List ℕ → ℕ → ℕ → List ℕ → Line
   BalancedDivision : SurveyInput → List ℕ → ℕ → ℕ → List ℕ → Line
-  -- the plan of a kind with kept sites
-  Keeping : ℕ → List ℕ → SurveyInput → ℕ → ℕ → List ℕ → List ℕ → Line
+  -- the plan of a kind
+  OfKind : ℕ → SurveyInput → ℕ → ℕ → List ℕ → List ℕ → Line
   -- total and division after the rounds
   Rounds : SurveyInput → ℕ → List ℕ → Line
   Floor : SurveyInput → ℕ → ℕ → Line
@@ -42,8 +41,8 @@ pub data Line : Type 0 where
   Places : ℕ → ℕ → List ℕ → Line
   -- a hand plan of a kind: survey, division, claimed total, loads
   Loaded : ℕ → SurveyInput → List ℕ → ℕ → Loads → ℕ → Line
-  -- the bound of the free plan with kept sites against a list of K sites: j ^ j * (T - S) ≤ (j - 1) ^ j * (T - F), where j, T - S and T - F are as given
-  BoundFrom : List ℕ → SurveyInput → List ℕ → ℕ → ℕ → ℕ → Line
+  -- the free plan's bound against a list of K sites: K ^ K * (T - S) ≤ (K - 1) ^ K * T, where T - S and T are as given
+  Bound : SurveyInput → List ℕ → ℕ → ℕ → Line
   -- whether a file has the new form, a survey with its kind, and the file
   FileOf : Bool → SurveyInput → ℕ → List ℕ → Line
   Read : List ℕ → ℕ → Line
@@ -73,13 +72,6 @@ Hand kind i division claimed x = Loaded kind i division claimed (unloaded i.town
 -- one row of a street whose weight is 1: m, scores, row, site
 abbrev pub RowScore : ℕ → List ℕ → List ℕ → ℕ → ℕ → ℕ → Line
 RowScore m scores = WeighedRow m scores 1
-
--- the plan of a kind that keeps none, and its bound, with j = K and F = 0
-abbrev pub OfKind : ℕ → SurveyInput → ℕ → ℕ → List ℕ → List ℕ → Line
-OfKind kind = Keeping kind []
-
-abbrev pub Bound : SurveyInput → List ℕ → ℕ → ℕ → Line
-Bound i other = BoundFrom [] i other i.k
 
 -- the two kinds
 abbrev pub FreePlan : SurveyInput → ℕ → ℕ → List ℕ → List ℕ → Line
@@ -136,9 +128,9 @@ facts (BalancedDivision i sites x total division) =
     let r : ℕ = balanced_division_refusal (division_of i.town sites old) in
     let d : List ℕ = balanced_division i.town sites in
     reported r x (plan_total i.town d) total (Bytes (after r d old) division ∷ [])
-facts (Keeping kind kept i x total division chosen) =
-    let r : ℕ = plan_refusal (plan_of i.town i.k kind kept (blank i.town.n) (blank i.k)) in
-    let p : Plan = plan_of_kind kind i.town i.k kept in
+facts (OfKind kind i x total division chosen) =
+    let r : ℕ = plan_refusal (plan_of i.town i.k kind (blank i.town.n) (blank i.k)) in
+    let p : Plan = plan_of_kind kind i.town i.k in
     reported r x p.reported total
     (Bytes (after r p.division (blank i.town.n)) division ∷ Bytes (after r p.sites (blank i.k)) chosen ∷ [])
 facts (Rounds i total division) =
@@ -147,11 +139,11 @@ facts (Rounds i total division) =
 facts (Floor i x total) = reported (floor_refusal i) x (plan_floor i.town i.k) total []
 facts (Places m k list) = places m k 0 list
 facts (Loaded kind i division claimed loads x) = Number (hand_refusal (hand_of i.town i.k kind division claimed loads)) x ∷ []
-facts (BoundFrom kept i other j missing reached) =
+facts (Bound i other missing reached) =
+    let k : ℕ = i.k in
     let t : ℕ = list_total i.town other in
-    let s : ℕ = list_total i.town (free_sites i.town i.k kept) in
-    Number (t - s) missing ∷ Number (t - list_total i.town kept) reached ∷ Number (length other) i.k ∷ Number (rounds_left i.k kept) j ∷
-    AtMost (j ^ j * missing) ((j - 1) ^ j * reached) ∷ []
+    let s : ℕ = list_total i.town (free_sites i.town k) in
+    Number (t - s) missing ∷ Number t reached ∷ Number (length other) k ∷ AtMost (k ^ k * missing) ((k - 1) ^ k * reached) ∷ []
 facts (FileOf new_form i kind file) =
     let read : Town = town_in file in
     Bytes (encode (filed_of new_form i.town i.k kind)) file ∷ Number (file_refusal file) 0 ∷ Number (1 when form_in file) (1 when new_form) ∷

@@ -8,7 +8,6 @@ use Rattle.worked_towns.specs.Towns.{p1, p3, p5, p6, p8, riseless, crowded, leve
 use Rattle.worked_towns.specs.Loaded.{loaded}
 use Rattle.worked_towns.specs.Weighted.{weighted}
 use Rattle.worked_towns.specs.WeightedFiles.{weighted_files}
-use Rattle.worked_towns.specs.Kept.{kept}
 
 -- P1 to P8
 abbrev pub worked : List Line
@@ -241,6 +240,4 @@ files =
 
 -- the whole table
 abbrev pub table : List Line
-table =
-    worked ++ plans ++ uneven ++ rounding ++ scarce ++ kinds ++ scored ++ refused ++ lists ++ hand ++ uneven_hand ++ loaded ++ weighted ++ files ++
-    weighted_files ++ kept
+table = worked ++ plans ++ uneven ++ rounding ++ scarce ++ kinds ++ scored ++ refused ++ lists ++ hand ++ uneven_hand ++ loaded ++ weighted ++ files ++ weighted_files

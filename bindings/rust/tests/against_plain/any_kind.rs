@@ -15,9 +15,9 @@ fn unpacked(answer: u64) -> Result<u32, Refusal> {
     Err(Refusal::try_from(number).expect("a refusal's number"))
 }
 
-pub fn plan(t: &Town, kind: usize, kept: &[u8], division: &mut [u8], chosen: &mut [u8]) -> Result<u32, Refusal> {
+pub fn plan(t: &Town, kind: usize, division: &mut [u8], chosen: &mut [u8]) -> Result<u32, Refusal> {
     if let Ok(kind) = Kind::try_from(kind) {
-        return slices::plan(t.n, t.m, t.k, kind, &t.scores, &t.weights, &t.rows, kept, division, chosen);
+        return slices::plan(t.n, t.m, t.k, kind, &t.scores, &t.weights, &t.rows, division, chosen);
     }
     // SAFETY: each pointer is a slice's own, beside its length; the division and the chosen sites are borrowed for this call alone.
     unpacked(unsafe {
@@ -32,8 +32,6 @@ pub fn plan(t: &Town, kind: usize, kept: &[u8], division: &mut [u8], chosen: &mu
             t.weights.len(),
             t.rows.as_ptr(),
             t.rows.len(),
-            kept.as_ptr(),
-            kept.len(),
             division.as_mut_ptr(),
             division.len(),
             chosen.as_mut_ptr(),

@@ -86,11 +86,11 @@ pub fn balanced_division(t: &Town, sites: &[u8], length: usize) -> u8 {
 /// Sites, site of each street, and total.
 type Planned = (Vec<u8>, Vec<u8>, u32);
 
-/// The plan of a kind by `plain`; a balanced one keeps no sites.
-fn plain_plan(t: &Town, kind: usize, kept: &[u8]) -> Planned {
+/// The plan of a kind by `plain`.
+fn plain_plan(t: &Town, kind: usize) -> Planned {
     let values = t.values();
     if kind == FREE {
-        let sites = free::sites(t, kept);
+        let sites = free::sites(t);
         let (division, total) = (free::divide(t, &sites), free::total(&values, &sites));
         return (sites, division, total);
     }
@@ -100,12 +100,11 @@ fn plain_plan(t: &Town, kind: usize, kept: &[u8]) -> Planned {
     (sites, division, total)
 }
 
-pub fn plan(t: &Town, kind: usize, kept: &[u8], lengths: Buffers) -> u8 {
+pub fn plan(t: &Town, kind: usize, lengths: Buffers) -> u8 {
     let (mut division, mut chosen) = (vec![OLD; lengths.division], vec![OLD; lengths.chosen]);
-    let ours = any_kind::plan(t, kind, kept, &mut division, &mut chosen);
-    let plain = refusals::plan(t, kind, kept, lengths.division, lengths.chosen).map(|()| plain_plan(t, kind, kept));
-    let (call, new) =
-        (format!("plan of kind {kind} with {} kept sites, {:?} ..", kept.len(), &kept[..kept.len().min(65)]), plain.as_ref().ok());
+    let ours = any_kind::plan(t, kind, &mut division, &mut chosen);
+    let plain = refusals::plan(t, kind, lengths.division, lengths.chosen).map(|()| plain_plan(t, kind));
+    let (call, new) = (format!("plan of kind {kind}"), plain.as_ref().ok());
     held(&chosen, new.map(|(sites, _, _)| &sites[..]), &call, t);
     held(&division, new.map(|(_, division, _)| &division[..]), &call, t);
     same(ours, plain.map(|(_, _, total)| total), &call, t)
@@ -122,20 +121,6 @@ pub fn hand_plan(t: &Town, kind: usize, division: &[u8], claimed: u32, loads: &L
     same(ours, plain, &format!("hand_plan {division:?} of kind {kind} with {loads:?}"), t)
 }
 
-/// Both plans of a right survey: the balanced one without kept sites and with this list, and the free one with nothing of the list, half
-/// of what it can keep, all of that, and all of the list, which may be too long for it.
-fn plans(t: &Town, sites: &[u8]) {
-    let exact = Buffers { division: t.n, chosen: t.k };
-    plan(t, BALANCED, &[], exact);
-    plan(t, BALANCED, sites, exact);
-    let most = sites.len().min(t.k);
-    let mut counts = vec![0, most / 2, most, sites.len()];
-    counts.dedup();
-    for count in counts {
-        plan(t, FREE, &sites[..count], exact);
-    }
-}
-
 /// A right survey, asked for everything: both plans, the division of a list, the floor, and its files there and back.
 pub fn everything(t: &Town, sites: &[u8], kind: usize) {
     assert_eq!(check_survey(t), 0);
@@ -146,7 +131,9 @@ pub fn everything(t: &Town, sites: &[u8], kind: usize) {
     list_total(t, sites);
     free_division(t, sites, t.n);
     balanced_division(t, sites, t.n);
-    plans(t, sites);
+    let exact = Buffers { division: t.n, chosen: t.k };
+    plan(t, FREE, exact);
+    plan(t, BALANCED, exact);
     floor(t);
     for (town, form) in [(&t.unweighted(), OLD_FORM), (t, NEW_FORM)] {
         compare_files::there_and_back(town, kind, form);

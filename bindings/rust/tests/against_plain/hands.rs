@@ -51,7 +51,7 @@ fn hand_plans() {
     let mut seen: Seen = [[0; NUMBERS]; 3];
     for turn in 0..6_000 {
         let mut town = towns::any_town(&mut random, 9, 5);
-        let mut plan = free::divide(&town, &free::sites(&town, &[]));
+        let mut plan = free::divide(&town, &free::sites(&town));
         if town.k <= town.n && turn % 2 == 0 {
             plan = compare::best_division(&town.values(), &balanced::sites(&town));
         }
@@ -82,10 +82,8 @@ fn our_plans_pass() {
         let (mut division, mut chosen) = (vec![0; t.n], vec![0; t.k]);
         let kinds: &[Kind] = if t.k <= t.n { &[Kind::Free, Kind::Balanced] } else { &[Kind::Free] };
         for &kind in kinds {
-            let count = if kind == Kind::Free { random.within(0, t.k) } else { 0 };
-            let kept = towns::some_sites(&mut random, t.m, count);
-            let planned = slices::plan(t.n, t.m, t.k, kind, &t.scores, &t.weights, &t.rows, &kept, &mut division, &mut chosen);
-            let total = planned.expect("a right survey");
+            let total =
+                slices::plan(t.n, t.m, t.k, kind, &t.scores, &t.weights, &t.rows, &mut division, &mut chosen).expect("a right survey");
             let loads = drawn_loads::fitting(&mut random, &t, &division);
             assert_eq!(compare::hand_plan(&t, kind.into(), &division, total, &loads), 0);
         }
@@ -99,7 +97,7 @@ fn long_hand_plans() {
     for _ in 0..60 {
         let t = towns::any_town(&mut random, 400, 64);
         let (mut division, mut chosen) = (vec![0; t.n], vec![0; t.k]);
-        slices::plan(t.n, t.m, t.k, Kind::Free, &t.scores, &t.weights, &t.rows, &[], &mut division, &mut chosen).expect("a right survey");
+        slices::plan(t.n, t.m, t.k, Kind::Free, &t.scores, &t.weights, &t.rows, &mut division, &mut chosen).expect("a right survey");
         try_plan(&mut random, &t, &division, &mut seen);
     }
     for number in [0, 21, 22, 23] {

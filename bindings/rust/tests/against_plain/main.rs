@@ -7,7 +7,6 @@ mod damaged;
 mod drawn_loads;
 mod files;
 mod hands;
-mod kept;
 mod long;
 mod plain;
 mod random;

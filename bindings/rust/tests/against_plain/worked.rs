@@ -15,14 +15,10 @@ fn town(m: usize, k: usize, scores: &[u16], lists: &[&[u8]]) -> Town {
 /// Total, sites in order of choice, and the site of each street.
 type Plan = Result<(u32, Vec<u8>, Vec<u8>), Refusal>;
 
-fn plan_with(kind: Kind, t: &Town, kept: &[u8]) -> Plan {
-    let (mut division, mut chosen) = (vec![0; t.n], vec![0; t.k]);
-    let total = slices::plan(t.n, t.m, t.k, kind, &t.scores, &t.weights, &t.rows, kept, &mut division, &mut chosen)?;
-    Ok((total, chosen, division))
-}
-
 fn plan(kind: Kind, t: &Town) -> Plan {
-    plan_with(kind, t, &[])
+    let (mut division, mut chosen) = (vec![0; t.n], vec![0; t.k]);
+    let total = slices::plan(t.n, t.m, t.k, kind, &t.scores, &t.weights, &t.rows, &mut division, &mut chosen)?;
+    Ok((total, chosen, division))
 }
 
 fn floor(t: &Town) -> Result<u32, Refusal> {
@@ -61,43 +57,6 @@ fn worked_surveys() {
     let p8 = town(1, 1, &[7], &[&[]]);
     assert_eq!(plan(Kind::Free, &p8), Ok((0, vec![1], vec![0])));
     assert_eq!(plan(Kind::Balanced, &p8), Ok((0, vec![1], vec![1])));
-}
-
-#[test]
-fn kept_sites() {
-    // the kept sites in their order, then the rounds
-    assert_eq!(plan_with(Kind::Free, &p1(2), &[2]), Ok((7, vec![2, 1], vec![1, 1, 2, 2])));
-    assert_eq!(plan_with(Kind::Free, &p1(2), &[3]), Ok((7, vec![3, 1], vec![1, 1, 1, 3])));
-    assert_eq!(plan_with(Kind::Free, &p1(3), &[3]), Ok((8, vec![3, 1, 2], vec![1, 1, 2, 3])));
-    assert_eq!(plan_with(Kind::Free, &p3(), &[2]), Ok((6, vec![2, 1], vec![1, 1, 1, 2, 2, 2])));
-    assert_eq!(plan_with(Kind::Free, &weighted(2, [1, 1, 1, 9]), &[2]), Ok((22, vec![2, 3], vec![2, 3, 2, 3])));
-    // as many as K, in either order
-    assert_eq!(plan_with(Kind::Free, &p1(1), &[3]), Ok((3, vec![3], vec![3, 3, 0, 3])));
-    assert_eq!(plan_with(Kind::Free, &p1(2), &[3, 2]), Ok((6, vec![3, 2], vec![2, 3, 2, 3])));
-    assert_eq!(plan_with(Kind::Free, &p1(2), &[2, 3]), Ok((6, vec![2, 3], vec![2, 3, 2, 3])));
-    // on a tie the lowest number that is not kept: no street gains by any site more
-    let nobody = town(5, 4, &[0; 5], &[&[5, 4], &[]]);
-    assert_eq!(plan_with(Kind::Free, &nobody, &[4, 1]), Ok((0, vec![4, 1, 2, 3], vec![4, 0])));
-}
-
-#[test]
-fn kept_sites_that_are_refused() {
-    for kind in [Kind::Free, Kind::Balanced] {
-        let refused = |k, kept: &[u8]| plan_with(kind, &p1(k), kept).unwrap_err();
-        for outside in [&[0][..], &[4], &[1, 255], &[2, 2, 0], &[1, 2, 3, 4], &[0; 256]] {
-            assert_eq!([1, 2, 3].map(|k| refused(k, outside)), [Refusal::SiteOutside; 3], "{outside:?}");
-        }
-        for twice in [&[2, 2][..], &[1, 2, 1], &[1, 2, 3, 3], &[1; 256], &[3; 65_536]] {
-            assert_eq!([1, 2, 3].map(|k| refused(k, twice)), [Refusal::ListedTwice; 3], "{} times", twice.len());
-        }
-        assert_eq!(refused(1, &[2, 1]), Refusal::Kept);
-        assert_eq!(refused(2, &[3, 2, 1]), Refusal::Kept);
-        // what is wrong with K comes first
-        assert_eq!([0, 4].map(|k| refused(k, &[9, 9, 9, 9, 9])), [Refusal::Chosen; 2]);
-    }
-    // in a balanced plan one is too many, behind more sites than streets
-    assert_eq!(plan_with(Kind::Balanced, &p1(3), &[1]), Err(Refusal::Kept));
-    assert_eq!(plan_with(Kind::Balanced, &town(3, 3, &[2, 1, 0], &[&[1, 2, 3]]), &[1]), Err(Refusal::Share));
 }
 
 /// Ten streets, as in examples/ten-streets.survey.
@@ -316,7 +275,6 @@ fn each_refusal() {
         hand([1, 1, 2, 2], 7, Loads { litres: &[1, 5, 3, 4], ..LOADS }),
         slices::check_survey(4, 3, 2, &t.scores, &[1, 1, 1, 100], &t.rows).unwrap_err(),
         write(&[1, 1, 1, 2], &mut bytes),
-        plan_with(Kind::Free, &p1(1), &[1, 2]).unwrap_err(),
     ];
     assert_eq!(given, Refusal::ALL);
 }

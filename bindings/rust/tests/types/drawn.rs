@@ -38,30 +38,15 @@ fn rows(t: &Town, survey: &Survey) {
     }
 }
 
-/// A plan by the functions over slices.
-fn lent_plan(t: &Town, kind: Kind, k: usize, kept: &[u8]) -> Result<Parts, Refusal> {
-    let (mut division, mut chosen) = (vec![0; t.n], vec![0; k.min(t.m)]);
-    let lent = slices::plan(t.n, t.m, k, kind, &t.scores, &t.weights, &t.rows, kept, &mut division, &mut chosen);
-    lent.map(|total| (total, chosen, division))
-}
-
 fn plans(random: &mut Random, t: &Town, survey: &Survey, k: usize) {
     for kind in [Kind::Free, Kind::Balanced] {
+        let (mut division, mut chosen) = (vec![0; t.n], vec![0; k.min(t.m)]);
+        let lent = slices::plan(t.n, t.m, k, kind, &t.scores, &t.weights, &t.rows, &mut division, &mut chosen);
         let plan = survey.plan(kind, k);
-        assert_eq!(parts(&plan), lent_plan(t, kind, k, &[]), "{kind:?}, K {k} of {t:?}");
+        assert_eq!(parts(&plan), lent.map(|total| (total, chosen, division)), "{kind:?}, K {k} of {t:?}");
         hand_plans(random, t, survey, kind, plan);
     }
     assert_eq!(survey.floor(k), slices::floor(t.n, t.m, k, &t.scores, &t.weights, &t.rows));
-}
-
-fn kept_plan(t: &Town, survey: &Survey, k: usize, kept: &[u8]) {
-    let plan = survey.plan_keeping(k, kept);
-    assert_eq!(parts(&plan), lent_plan(t, Kind::Free, k, kept), "K {k}, {kept:?} kept of {t:?}");
-    if let Ok(plan) = &plan {
-        assert!(plan.sites.starts_with(kept));
-        // the total and the streets' sites are those of the plan over these sites
-        assert_eq!(survey.divide(Kind::Free, &plan.sites).as_ref(), Ok(plan));
-    }
 }
 
 /// One of our plans passes as a hand-made one without loads and where its loads fit, and is tested as the functions test it for another kind, K, total and
@@ -107,17 +92,12 @@ fn lists(random: &mut Random, t: &Town, survey: &Survey, sites: &[u8]) {
 fn everything(random: &mut Random, t: &Town) {
     let survey = survey_of(t);
     rows(t, &survey);
+    for k in [t.k, 0, t.m + 1, usize::MAX] {
+        plans(random, t, &survey, k);
+    }
     let sites = towns::some_sites(random, t.m, t.k);
     let twice = [&sites[..], &sites[..1]].concat();
     let outside = [&sites[1..], &[t.m as u8 + 1]].concat();
-    for k in [t.k, 0, t.m + 1, usize::MAX] {
-        plans(random, t, &survey, k);
-        kept_plan(t, &survey, k, &sites);
-    }
-    for kept in [&[], &sites[..t.k / 2], &twice, &outside, &vec![1; t.m + 1]] {
-        kept_plan(t, &survey, t.k, kept);
-    }
-    kept_plan(t, &survey, t.k.div_ceil(2), &sites);
     for list in [&sites, &twice, &outside, &vec![], &vec![1; t.m + 1]] {
         lists(random, t, &survey, list);
     }

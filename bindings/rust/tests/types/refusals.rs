@@ -10,7 +10,7 @@ fn each_number() {
         assert_eq!(Refusal::try_from(number), Ok(refusal));
         assert_eq!(refusal.to_string(), format!("{}: {}", refusal.what_is_wrong(), refusal.what_to_do()));
     }
-    assert_eq!(Refusal::ALL.len(), 26);
+    assert_eq!(Refusal::ALL.len(), 25);
 }
 
 #[test]

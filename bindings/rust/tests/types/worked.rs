@@ -1,5 +1,5 @@
 //! Worked surveys whose plans are known.
-use planner::{HandPlan, Kind, Plan, Refusal, Survey, SurveyFile};
+use planner::{HandPlan, Kind, Plan, Refusal, Survey};
 
 /// Total, sites in order of choice, and the site of each street.
 type Parts = (u32, Vec<u8>, Vec<u8>);
@@ -41,35 +41,6 @@ fn plans_with_weights() {
     // weights that are given again stand in place of those before
     assert_eq!(survey.with_weights(&[1; 4]), Ok(p1()));
     assert_eq!(p1().with_weights(&[2, 3, 2, 99]).and_then(|survey| survey.floor(2)), Ok(4));
-}
-
-#[test]
-fn plans_with_kept_sites() {
-    // the kept sites in their order, then the others in order of choice
-    assert_eq!(parts(p1().plan_keeping(2, &[2])), Ok((7, vec![2, 1], vec![1, 1, 2, 2])));
-    assert_eq!(parts(p1().plan_keeping(3, &[3])), Ok((8, vec![3, 1, 2], vec![1, 1, 2, 3])));
-    assert_eq!(parts(p1().plan_keeping(3, &[3, 2])), Ok((8, vec![3, 2, 1], vec![1, 1, 2, 3])));
-    let survey = p1().with_weights(&[1, 1, 1, 9]).expect("right weights");
-    assert_eq!(parts(survey.plan_keeping(2, &[2])), Ok((22, vec![2, 3], vec![2, 3, 2, 3])));
-    // as many as K are the plan, which is then the one over these sites
-    for sites in [&[3][..], &[3, 2], &[2, 3], &[1, 3], &[3, 1, 2]] {
-        assert_eq!(p1().plan_keeping(sites.len(), sites), p1().divide(Kind::Free, sites));
-    }
-    // a file keeps none, while its survey can
-    let file = SurveyFile::new(p1(), Kind::Free, 2);
-    assert_eq!(file.plan().map(|plan| plan.sites), Ok(vec![1, 2]));
-    assert_eq!(file.survey().plan_keeping(file.k(), &[3]).map(|plan| plan.sites), Ok(vec![3, 1]));
-}
-
-#[test]
-fn kept_sites_that_are_refused() {
-    let plan = |k, kept: &[u8]| p1().plan_keeping(k, kept);
-    assert_eq!(plan(4, &[0]), Err(Refusal::Chosen));
-    assert_eq!(plan(usize::MAX, &[1, 2]), Err(Refusal::Chosen));
-    assert_eq!([0, 4, 255].map(|site| plan(1, &[2, 2, site])), [(); 3].map(|()| Err(Refusal::SiteOutside)));
-    assert_eq!(plan(1, &[2, 3, 2]), Err(Refusal::ListedTwice));
-    assert_eq!(plan(3, &[1, 2, 3, 1]), Err(Refusal::ListedTwice));
-    assert_eq!(plan(2, &[3, 1, 2]), Err(Refusal::Kept));
 }
 
 #[test]

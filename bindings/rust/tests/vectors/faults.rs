@@ -99,25 +99,6 @@ fn forms_left_out() {
     }
 }
 
-#[test]
-fn kept_sites_left_out() {
-    let survey = "call plan\nn 1\nm 2\nk 2\nkind 0\nscores 7 3\nweights 1\nrows 1 2\ndivision-length 1\nchosen-length 2\n";
-    let without = format!("{survey}=> 0\ntotal 7\nchosen 1 2\ndivision 1\n");
-    let none = without.replace("rows 1 2", "rows 1 2\nkept");
-    let second = none.replace("kept", "kept 2");
-    assert_eq!(run::every_block("2026-06.txt", &without), (1, Vec::new()));
-    assert_eq!(run::every_block("2026-06.txt", &none).1, ["2026-06.txt:1: `plan` has no line `kept`, or has it twice"]);
-    for file in ["2026-07.txt", "2026-10.txt"] {
-        assert_eq!(run::every_block(file, &none), (1, Vec::new()));
-        assert_eq!(run::every_block(file, &without).1, [format!("{file}:1: `plan` lacks its line `kept`")]);
-        // the list goes to the function, and its order counts
-        assert_eq!(run::every_block(file, &second).1, [format!("{file}:1: `chosen` after plan: its entry 1 is 2 and should be 1")]);
-        assert_eq!(run::every_block(file, &second.replace("chosen 1 2", "chosen 2 1")), (1, Vec::new()));
-        let three = second.replace("kept 2", "kept 2 1 3");
-        assert_eq!(run::every_block(file, &three).1, [format!("{file}:1: plan answers 17 with 0, and 0 with 7 is due")]);
-    }
-}
-
 /// The converter's file and its buffer have one key.
 #[test]
 fn a_file_read_and_a_file_written() {

@@ -29,7 +29,6 @@ pub fn inputs<'a>(file: &str, call: &Call, block: &Block<'a>) -> Vec<Line<'a>> {
         "weight" if before("2026-05") => Some(vec![1]),
         "kilograms" | "litres" if before("2026-02") => Some(vec![0; size("n", MAX_STREETS)]),
         "kilogram-limits" | "litre-limits" if before("2026-02") => Some(vec![Loads::MOST.into(); size("m", MAX_SITES)]),
-        "kept" if before("2026-07") => Some(Vec::new()),
         "form" if before("2026-06") => Some(vec![0]),
         "weights-length" if before("2026-06") => Some(vec![WEIGHTS_LENGTH as u64]),
         _ => None,

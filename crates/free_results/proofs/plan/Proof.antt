@@ -15,14 +15,19 @@ entry i = i.before.before.before.before.before.before.before
 -- the sites that they chose are as many as their buffer has places
 chosen-size : (i : tie.After-planned) → length (take (length (entry i).args.chosen.now) i.planned.result.chosen) ≡ length (entry i).args.chosen.now
 chosen-size i =
-    let p = (entry i).requires.0 in
-    length-take-le (length (entry i).args.chosen.now) i.planned.result.chosen (omega (arith, i.planned.ensures.1.chosen-size, p.1, p.0.few-sites))
+    let p = (entry i).requires in
+    length-take-le (length (entry i).args.chosen.now) i.planned.result.chosen (omega (arith, i.planned.ensures.1.chosen-size, p.0.1, p.0.0.few-sites))
+
+planned-requires : tie.Need-planned-requires
+planned-requires c κs =
+    let p = c.before.before.before.before.before.before.requires in
+    (p.0.0, (omega (arith, p.0.1), λ i. omega arith))
 
 serve-requires : tie.Need-serve-requires
 serve-requires c κs =
     let i = c.before.before.before.before in
     let p = (entry i).requires in
-    serve-ready p.0.0 i.planned.ensures.1 _ p.1.1
+    serve-ready p.0.0 i.planned.ensures.1 _ p.1
 
 slice-aggregate-copy-bytes : tie.Need-slice-aggregate-copy-bytes
 slice-aggregate-copy-bytes c = sym (chosen-size c.before.before.before.before.before.before.before.before)
@@ -40,10 +45,10 @@ returns c =
     let i = c.before.before.before.before.before.before.before.before.before.before.before.before.before in
     let p = (entry i).requires in
     let e = i.planned.ensures in
-    let size : i.planned.result.count ≡ length (entry i).args.chosen.now = omega (arith, e.0.0, p.1.0.0) in (
+    let size : i.planned.result.count ≡ length (entry i).args.chosen.now = omega (arith, e.0.0) in (
       total-found p.0.0 e.1 e.0.1 c.total_of.ensures,
       (
-        served p.0.0 e.1 e.0.1 p.1.1 c.before.before.before.before.before.before.before.before.serve.ensures,
+        served p.0.0 e.1 e.0.1 p.1 c.before.before.before.before.before.before.before.before.serve.ensures,
         copied p.0.0 e.1 e.0.1 size c.before.before.before.copy-bytes.ensures,
       ),
     )
@@ -53,7 +58,8 @@ plan-spec =
     tie.close
     (tie.spec
     (λ c. search rules)
-    (λ c κs. search rules)
+    (λ c. search rules)
+    planned-requires
     (λ c. search rules)
     serve-requires
     (λ c. search rules)

@@ -1,6 +1,6 @@
 -- `plan_calls::plan` meets its contract. Assumes nothing.
 use borrow.Author.Rules.{rules}
-use Rattle.refusals.proofs.PlanCalled.{plan-fits, plan-asked, plan-keeps}
+use Rattle.refusals.proofs.Listed.{plan-fits, plan-asked}
 use Rattle.plan_calls.proofs.PlanPromises.{plan-refused, free-given, balanced-given}
 use Rattle.plan_calls.proofs.plan.Statement.{statement}
 use Rattle.plan_calls.proofs.plan.Tie as tie
@@ -13,7 +13,7 @@ plan-requires c κs =
     let tried = c.before.before.before.before.plan-refusal.ensures in
     let z = c.before.before.before.if1.false in
     let asked = plan-asked tried z in
-    ((asked.0, asked.2), (plan-keeps tried z c.before.before.if2.true, (plan-fits tried z).0))
+    ((asked.0, asked.2), (plan-fits tried z).0)
 
 returns-2 : tie.Need-returns-2
 returns-2 c =

@@ -2,7 +2,7 @@
 use borrow.Author.Rules.{rules}
 use native.Mathlib.Omega.{arith}
 use native.Mathlib.Nat.{mul-le-mul}
-use mathlib.Core.Path.{◌≡◌, refl, sym}
+use mathlib.Core.Path.{◌≡◌, sym}
 use Prim.Native.Nat.{ℕ, ◌*◌, ◌≤◌}
 use lib.ListN.{length, take, replicate}
 use lib.Seq.{length-take-le}
@@ -62,7 +62,7 @@ slice-aggregate-print-plan-5 c = sym (chosen-front c.before.before.before.before
 print-plan-requires : tie.Need-print-plan-requires
 print-plan-requires c κs =
     let s = c.before.before.before.before.before.before.before.before.before.before in
-    (record { survey = s.requires.0.asked; unkept = refl; streets = division-front s; sites = chosen-front s }, s.requires.1)
+    (record { survey = s.requires.0.asked; streets = division-front s; sites = chosen-front s }, s.requires.1)
 
 returns : tie.Need-returns
 returns c = c.before.before.before.before.print-plan.ensures

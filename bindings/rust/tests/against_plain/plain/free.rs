@@ -1,4 +1,4 @@
-//! The free plan: totals by definition, and greedy rounds from the kept sites on.
+//! The free plan: totals by definition, and greedy rounds.
 use super::survey::{ranked, Town};
 
 /// The total of a set of sites: the sum over streets of the best score any of them gives.
@@ -6,12 +6,11 @@ pub fn total(values: &[Vec<u32>], sites: &[u8]) -> u32 {
     values.iter().map(|value| sites.iter().map(|&site| value[site as usize]).max().unwrap_or(0)).sum()
 }
 
-/// The chosen sites: first the kept ones in their order, then each round adds the unchosen site that raises the total most, the lowest
-/// number on a tie, until there are K.
-pub fn sites(town: &Town, kept: &[u8]) -> Vec<u8> {
+/// The chosen sites: each round adds the unchosen site that raises the total most, the lowest number on a tie.
+pub fn sites(town: &Town) -> Vec<u8> {
     let values = town.values();
-    let mut chosen: Vec<u8> = kept.to_vec();
-    while chosen.len() < town.k {
+    let mut chosen: Vec<u8> = Vec::new();
+    for _ in 0..town.k {
         let mut best: Option<(u32, u8)> = None;
         for site in town.sites().filter(|site| !chosen.contains(site)) {
             let with = [&chosen[..], &[site]].concat();

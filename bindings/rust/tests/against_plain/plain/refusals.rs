@@ -126,19 +126,12 @@ pub fn balanced_division(town: &Town, given: &[u8], division: usize) -> Tried {
     list(town.m, given)
 }
 
-/// The kept sites of a plan: as any list, and then more than K of them, or any in a balanced plan. Their number is tried for nothing else.
-pub fn kept(town: &Town, sort: usize, given: &[u8]) -> Tried {
-    list(town.m, given)?;
-    refuse(26, given.len() > town.k || (sort == BALANCED && !given.is_empty()))
-}
-
-pub fn plan(town: &Town, sort: usize, given: &[u8], division: usize, sites: usize) -> Tried {
+pub fn plan(town: &Town, sort: usize, division: usize, sites: usize) -> Tried {
     survey(town, town.k, || {
         plan_kind(sort, town.n, town.k)?;
         length(division, town.n)?;
         length(sites, town.k)
-    })?;
-    kept(town, sort, given)
+    })
 }
 
 pub fn floor(town: &Town) -> Tried {

@@ -15,17 +15,41 @@ invariant-loop weights i₀ i-end i = (i ≤ i-end) × (i-end ≡ length weights
 abbrev decreases-loop : tie.decreases-loop
 decreases-loop weights i₀ i-end i = i-end - i
 
+loop-holds : tie.Need-loop-init invariant-loop decreases-loop
+loop-holds c = search loop
+
+shared-slice-read-weight-refusal : tie.Need-shared-slice-read-weight-refusal invariant-loop decreases-loop
+shared-slice-read-weight-refusal c = search loop
+
+weight-refusal-requires : tie.Need-weight-refusal-requires invariant-loop decreases-loop
+weight-refusal-requires c κs = search loop
+
+returns : tie.Need-returns invariant-loop decreases-loop
+returns c = search loop
+
+add-i : tie.Need-overflow-add-i invariant-loop decreases-loop
+add-i c = search loop
+
+loop-less : tie.Need-loop-smaller invariant-loop decreases-loop
+loop-less c = search loop
+
+loop-again : tie.Need-loop-preserved invariant-loop decreases-loop
+loop-again c = search loop
+
+returns-2 : tie.Need-returns-2 invariant-loop decreases-loop
+returns-2 c = search loop
+
 pub weights-refusal-spec : {M : Type 1} → statement M
 weights-refusal-spec =
     tie.close
     (tie.spec
     invariant-loop
     decreases-loop
-    (λ c. search loop)
-    (λ c. search loop)
-    (λ c κs. search loop)
-    (λ c. search loop)
-    (λ c. search loop)
-    (λ c. search loop)
-    (λ c. search loop)
-    (λ c. search loop))
+    loop-holds
+    shared-slice-read-weight-refusal
+    weight-refusal-requires
+    returns
+    add-i
+    loop-less
+    loop-again
+    returns-2)

@@ -1,9 +1,0 @@
--- `call_check::list_refusal` meets its contract. Assumes nothing.
-use borrow.Author.Rules.{rules}
-use Rattle.counting.proofs.Refusals.{chain}
-use Rattle.call_check.proofs.list_refusal.Statement.{statement}
-use Rattle.call_check.proofs.list_refusal.Tie as tie
-
-pub list-refusal-spec : {M : Type 1} → statement M
-list-refusal-spec =
-    tie.close (tie.spec (λ c κs. search rules) (λ c. search chain) (λ c κs. search rules) (λ c. search chain))
