@@ -1,5 +1,7 @@
 // From an accepted survey to the best balanced division, over a list of sites or over the sites that the rounds choose: the table is filled, a first
 // division in the rounds' shares is found, and it becomes the best one.
+#![tactic(auto)]
+
 ghost use Rattle.std.specs.Prelude.{◌≡◌, ℕ, ◌+◌, ◌≤◌, ◌<◌, length};
 ghost use Rattle.counting.specs.Lists.{at};
 ghost use Rattle.survey.specs.Town.{town_of, town, was, is};

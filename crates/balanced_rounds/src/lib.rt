@@ -1,4 +1,6 @@
 // The balanced plan's rounds: a state that holds the sites chosen so far and each street's site, passed by value from round to round.
+#![tactic(auto)]
+
 ghost use Rattle.std.specs.Prelude.{◌≡◌, ℕ, ◌+◌, ◌≤◌, ◌<◌, length};
 ghost use Rattle.counting.specs.Bounds.{most_streets, most_sites};
 ghost use Rattle.counting.specs.Lists.{at};

@@ -1,5 +1,6 @@
 // The best division from any division in the shares: improved until no chain of moves gains, then settled by the tie rule. The buffers of
 // both passes are locals of this crate.
+#![tactic(auto)]
 
 ghost use Rattle.std.specs.Prelude.{◌≡◌, ℕ, ◌≤◌, length};
 ghost use Rattle.counting.specs.Bounds.{most_price};

@@ -1,4 +1,6 @@
 // Copying a list into a buffer of the same length, and clearing: a loop for each width.
+#![tactic(auto)]
+
 ghost use Rattle.std.specs.Prelude.{◌≡◌, false, length, replicate};
 
 // A buffer of bytes becomes a list of its length.

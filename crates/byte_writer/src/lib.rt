@@ -1,4 +1,6 @@
 // Bytes that are laid over a lent buffer from an index on: what the writers of files and of texts share.
+#![tactic(auto)]
+
 ghost use Rattle.std.specs.Prelude.{◌+◌, ◌≤◌, length};
 ghost use Rattle.counting.specs.Buffers.{Written};
 

@@ -1,4 +1,6 @@
 // The answer of a call that gives a total.
+#![tactic(auto)]
+
 #[derive(Drop)]
 pub enum Answer {
     Total(u32),

@@ -1,6 +1,8 @@
 // Runs the library's entries on the cases of standard input and prints every answer, one line a case. A case is the number of a command and then
 // the command's own numbers; with twenty more it is the command of the same name with weights, which stand behind the scores, and else each street has
 // the weight 1. No case has a list that is longer than its buffer.
+#![tactic(auto)]
+
 use libc::STDOUT_FILENO;
 
 mod files;

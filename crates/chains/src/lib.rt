@@ -1,5 +1,6 @@
 // The division is improved by closed chains of moves until none gains (cycle cancelling). A chain is searched layer by layer over the best moves
 // between sites, as by Bellman-Ford; where a layer raises no price, the prices prove the division best.
+#![tactic(auto)]
 
 ghost use Rattle.std.specs.Prelude.{◌≡◌, ℕ, ◌+◌, ◌*◌, ◌≤◌, ◌<◌, length};
 ghost use Rattle.counting.specs.Bounds.{most_price};

@@ -1,4 +1,6 @@
 // The choice that the rounds of both plans make: the unchosen site of greatest worth, the lowest number on a tie.
+#![tactic(auto)]
+
 ghost use Rattle.std.specs.Prelude.{◌≡◌, ℕ, ◌+◌, ◌≤◌, length};
 ghost use Rattle.counting.specs.Bounds.{most_sites, most_worth};
 ghost use Rattle.counting.specs.Words.{◌unless◌};

@@ -1,5 +1,7 @@
 // The best division by a table that has a column for each site with a share and none for the others: the sites that have a share get numbers
 // in their own order, which the tie rule goes by, and the division goes over to the numbers and back.
+#![tactic(auto)]
+
 ghost use Rattle.std.specs.Prelude.{◌≡◌, ℕ, ◌*◌, ◌≤◌, length};
 ghost use Rattle.counting.specs.Lists.{at, cell};
 ghost use Rattle.division.specs.Shares.{InShares, division_total};

@@ -1,4 +1,5 @@
 // specs/ has the words that every definition of the planner is written in, and its bounds; proofs/ has their laws. The code has the bounds alone.
+#![tactic(auto)]
 
 // the most streets and sites of a survey
 pub const STREETS: usize = 400;

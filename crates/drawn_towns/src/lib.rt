@@ -1,4 +1,6 @@
 // Small towns, drawn one after the other by a generator of numbers whose state is one number, so that every run has the same towns.
+#![tactic(auto)]
+
 ghost use Rattle.std.specs.Prelude.{◌≡◌, ◌≤◌, ◌<◌, length};
 ghost use Rattle.drawn_towns.specs.Small.{Small};
 

@@ -1,5 +1,7 @@
 // The floor for every number of sites and every K: K streets with full lists and falling weights, of which the last is the smallest, against places that
 // are counted without dividing.
+#![tactic(auto)]
+
 ghost use Rattle.std.specs.Prelude.{◌≡◌, ◌≤◌, length};
 
 use libc::STDOUT_FILENO;

@@ -1,4 +1,6 @@
 // The writer, the reader and the converter of survey files.
+#![tactic(auto)]
+
 ghost use Rattle.survey.specs.Town.{is};
 ghost use Rattle.refusals.specs.Inputs.{write_lent, read_lent, convert_lent};
 ghost use Rattle.file_calls.specs.Calls.{FileWritten, FileRead, FileConverted};

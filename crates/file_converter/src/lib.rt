@@ -1,4 +1,6 @@
 // A survey file in the form that is wanted. The file has been checked: its bytes are taken over as they are, but for the first mark and the record HW.
+#![tactic(auto)]
+
 ghost use Rattle.std.specs.Prelude.{◌≡◌, ◌+◌, ◌-◌, ◌*◌, ◌≤◌, length};
 ghost use Rattle.counting.specs.Bounds.{most_sites};
 ghost use Rattle.counting.specs.Buffers.{laid};

@@ -1,4 +1,6 @@
 // The second pass over a survey file, which has been checked: it fills the buffers and can't fail.
+#![tactic(auto)]
+
 ghost use Rattle.std.specs.Prelude.{true, cond, ◌≡◌, ◌+◌, ◌*◌, ◌≤◌, ◌<◌, length, take, drop};
 ghost use Rattle.counting.specs.Bounds.{most_streets, most_sites, most_rows};
 ghost use Rattle.counting.specs.Lists.{at};

@@ -1,4 +1,6 @@
 // Checks a survey file, record by record, before anything is filled from it.
+#![tactic(auto)]
+
 ghost use Rattle.std.specs.Prelude.{◌≡◌};
 ghost use Rattle.file_reader.specs.Checks.{checked_number, checked_file};
 

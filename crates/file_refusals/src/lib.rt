@@ -1,4 +1,6 @@
 // What the calls on files turn down: the number that its definition gives, and 0 where the call is accepted.
+#![tactic(auto)]
+
 ghost use Rattle.std.specs.Prelude.{◌≡◌, ltb, length};
 ghost use Rattle.counting.specs.Words.{◌when◌, ◌or_else◌};
 ghost use Rattle.survey.specs.Town.{was};

@@ -1,4 +1,6 @@
 // Writing a survey file: how long it is, and its bytes, laid over a buffer from the start on.
+#![tactic(auto)]
+
 ghost use Rattle.std.specs.Prelude.{◌≡◌, List, ℕ, ◌*◌, ◌≤◌, length};
 ghost use Rattle.counting.specs.Bounds.{most_streets, most_sites};
 ghost use Rattle.survey.specs.Town.{town_of, was, is, town};

@@ -1,4 +1,6 @@
 // The floor of the balanced plan: over the rounds, what each is sure of for the streets of its share.
+#![tactic(auto)]
+
 ghost use Rattle.std.specs.Prelude.{true, ◌≡◌, ◌+◌, ◌*◌, ◌≤◌, ◌<◌, min, length};
 ghost use Rattle.counting.specs.Bounds.{most_streets, most_sites, most_total};
 ghost use Rattle.survey.specs.Town.{town_of, town};

@@ -1,1 +1,2 @@
 // Definitions alone so far.
+#![tactic(auto)]

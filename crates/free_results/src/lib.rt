@@ -1,4 +1,6 @@
 // From an accepted survey to the free plan's results: the table is filled, the engine chooses or takes the sites, and the streets are served.
+#![tactic(auto)]
+
 ghost use Rattle.std.specs.Prelude.{◌≡◌, false, ℕ, ◌+◌, ◌*◌, ◌≤◌, length, take};
 ghost use Rattle.counting.specs.Bounds.{most_streets};
 ghost use Rattle.counting.specs.Words.{sum_of};

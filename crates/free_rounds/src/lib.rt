@@ -1,6 +1,8 @@
 // The free plan's engine: a state that holds the sites chosen so far and each street's best score, passed by value from round to round. The
 // bests are plain scores, and the streets' weights come in where they are summed: a weight times the best is the best of what counts. It is
 // the lazy greedy algorithm: a site's rise never grows, so the rise that was found last bounds it, and most sites need no new sum.
+#![tactic(auto)]
+
 ghost use Rattle.std.specs.Prelude.{◌≡◌, ◌∷◌, [], ◌++◌, ℕ, ◌+◌, ◌≤◌, ◌<◌, length};
 ghost use Rattle.counting.specs.Bounds.{most_sites, most_value};
 ghost use Rattle.counting.specs.Lists.{at};

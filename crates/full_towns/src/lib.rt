@@ -1,4 +1,6 @@
 // Towns in which every street ranks all sites, for programs that go up to the greatest sizes.
+#![tactic(auto)]
+
 ghost use Rattle.std.specs.Prelude.{◌≤◌};
 
 // What is left over of a number.

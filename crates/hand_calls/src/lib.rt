@@ -1,4 +1,6 @@
 // The test of a hand-made plan, free or balanced.
+#![tactic(auto)]
+
 ghost use Rattle.refusals.specs.Inputs.{hand_lent};
 ghost use Rattle.hand_calls.specs.Calls.{HandTested};
 

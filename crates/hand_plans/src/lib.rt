@@ -1,4 +1,6 @@
 // The test of a hand-made plan: the number of document 01 that turns it down, and 0 where it passes.
+#![tactic(auto)]
+
 ghost use Rattle.std.specs.Prelude.{◌≡◌, ◌+◌, ◌*◌, ◌≤◌, ◌<◌, suc, length};
 ghost use Rattle.counting.specs.Bounds.{most_streets, most_sites};
 ghost use Rattle.counting.specs.Words.{◌or_else◌, one, count_of};

@@ -1,4 +1,6 @@
 // One layer of the search for a chain that gains, made from the tables of best moves, one site's row after another: a round of Bellman-Ford.
+#![tactic(auto)]
+
 ghost use Rattle.std.specs.Prelude.{◌≡◌, ◌+◌, ◌*◌, ◌≤◌, ◌<◌, length};
 ghost use Rattle.counting.specs.Bounds.{most_value, most_price};
 ghost use Rattle.counting.specs.Lists.{at, cell};

@@ -1,4 +1,6 @@
 // The calls on a given list of sites: its total, and the division of the streets over it, free or best balanced.
+#![tactic(auto)]
+
 ghost use Rattle.survey.specs.Town.{is};
 ghost use Rattle.refusals.specs.Inputs.{list_lent, division_lent};
 ghost use Rattle.list_calls.specs.Calls.{ListTotalled, FreeDivided, BalancedDivided};

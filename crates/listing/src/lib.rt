@@ -1,4 +1,6 @@
 // The listing of a plan, line by line, each written into a buffer from an index on. Each function gives back the index behind what it wrote.
+#![tactic(auto)]
+
 ghost use Rattle.std.specs.Prelude.{◌≡◌, [], ◌∷◌, ◌+◌, ◌*◌, ◌≤◌, ◌<◌, length};
 ghost use Rattle.counting.specs.Buffers.{Written};
 ghost use Rattle.survey.specs.Rows.{row_at, place_of};

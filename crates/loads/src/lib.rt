@@ -1,4 +1,6 @@
 // What a plan's streets bring to its sites, in kilograms and in litres, and what is turned down in it.
+#![tactic(auto)]
+
 ghost use Rattle.std.specs.Prelude.{◌≡◌, ◌≤◌, length};
 ghost use Rattle.counting.specs.Bounds.{most_streets, most_sites};
 ghost use Rattle.counting.specs.Lists.{at};

@@ -1,5 +1,7 @@
 // Writes the survey that has the longest file, 400 full lists of 64 sites, in the old form and, with weights, in the new one, reads each file back,
 // writes it again, converts it to the other form and back, and compares.
+#![tactic(auto)]
+
 ghost use Rattle.std.specs.Prelude.{◌≤◌};
 
 use libc::STDOUT_FILENO;

@@ -1,4 +1,6 @@
 // The tables of the best move between each two sites, made for a division and mended after streets have moved.
+#![tactic(auto)]
+
 ghost use Rattle.std.specs.Prelude.{◌≡◌, ℕ, ◌+◌, ◌*◌, ◌≤◌, ◌<◌, length};
 ghost use Rattle.counting.specs.Lists.{at};
 ghost use Rattle.pairs.specs.Moves.{Valued, Tables, Renewed, Mended};

@@ -1,4 +1,6 @@
 // What is right for surveys and files of small towns, found the plain way. Nothing of the library is used here.
+#![tactic(auto)]
+
 pub mod converting;
 pub mod filling;
 pub mod reading;

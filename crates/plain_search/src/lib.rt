@@ -1,4 +1,6 @@
 // What plans are right for a small town, found the plain way: word for word, or by trying everything. Nothing of the library is used here.
+#![tactic(auto)]
+
 pub mod asked;
 pub mod divisions;
 pub mod floors;

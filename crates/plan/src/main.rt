@@ -1,4 +1,6 @@
 // The plan program: reads a survey file from standard input and prints the listing of its plan, or the line of the refusal.
+#![tactic(auto)]
+
 use libc::{STDIN_FILENO, STDOUT_FILENO};
 use survey::Survey;
 

@@ -1,4 +1,6 @@
 // The call that makes a plan, free or balanced, and the floor.
+#![tactic(auto)]
+
 ghost use Rattle.survey.specs.Town.{is};
 ghost use Rattle.refusals.specs.Inputs.{survey_lent, plan_lent};
 ghost use Rattle.plan_calls.specs.Calls.{Planned, FloorGiven};

@@ -1,6 +1,7 @@
 // The library: every entry that a caller may call, by subject. Each checks its own input, on any input whatever, and answers with its result or with
 // one of document 01's numbers; a refusal leaves the caller's buffers as they were. A call's contract stands where it is defined, in the crate named
 // here, and what it promises is one record of specs/Calls there.
+#![tactic(auto)]
 
 // an answer with a total
 pub use call_answers::Answer;

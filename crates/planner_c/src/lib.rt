@@ -1,6 +1,8 @@
 // The library for other languages: every entry of `planner` under a plain name, over numbers and slices, a slice being a pointer and then a length.
 // An empty slice may have any address, null too: no code reads or writes behind it, and none looks at an address. An answer is one number: the total,
 // or the refusal's number times 2^32. include/planner.h says the same in C's terms.
+#![tactic(auto)]
+
 ghost use Rattle.std.specs.Prelude.{◌≡◌, length};
 ghost use Rattle.survey.specs.Town.{was, is};
 ghost use Rattle.survey.specs.Rows.{ranked_part};

@@ -1,4 +1,6 @@
 // What the plan program prints for a survey file, written into a buffer.
+#![tactic(auto)]
+
 ghost use Rattle.std.specs.Prelude.{◌≡◌, ◌≤◌, length};
 ghost use Rattle.counting.specs.Buffers.{Written};
 ghost use Rattle.survey.specs.Town.{town_of, was, is, town};

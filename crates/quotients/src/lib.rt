@@ -1,4 +1,6 @@
 // Quotients, rounded up, from a constant table.
+#![tactic(auto)]
+
 ghost use Rattle.std.specs.Prelude.{true, ◌≡◌, ◌≤◌};
 ghost use Rattle.counting.specs.Bounds.{most_sites};
 ghost use Rattle.balanced_plan.specs.Floor.{ceil};

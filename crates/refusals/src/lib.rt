@@ -1,4 +1,6 @@
 // What each call turns down: the number that its definition gives, and 0 where the call is accepted.
+#![tactic(auto)]
+
 ghost use Rattle.std.specs.Prelude.{◌≡◌};
 ghost use Rattle.counting.specs.Words.{◌when◌, ◌or_else◌};
 ghost use Rattle.survey.specs.Town.{town, was};

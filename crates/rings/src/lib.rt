@@ -1,4 +1,6 @@
 // The closed chain of moves: the walk back from a raised site to a meeting finds it, and the shift moves its streets.
+#![tactic(auto)]
+
 ghost use Rattle.std.specs.Prelude.{◌≡◌, ◌+◌, ◌≤◌, length, set};
 ghost use Rattle.counting.specs.Lists.{at, cell};
 ghost use Rattle.rings.specs.Rings.{moved, Moves, Walkable, Walked, Found, Linkable};

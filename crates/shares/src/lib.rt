@@ -1,4 +1,6 @@
 // The share of a round, and of an entry of a list of sites: nothing else divides the number of streets.
+#![tactic(auto)]
+
 ghost use Rattle.std.specs.Prelude.{◌≡◌, ◌≤◌, ◌<◌};
 ghost use Rattle.shares.specs.Rounds.{least_share, larger_shares, round_share};
 

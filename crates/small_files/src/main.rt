@@ -1,5 +1,7 @@
 // Draws small towns, compares what the writer, the reader and the converter of survey files answer for files of both forms, right and damaged ones,
 // with what plain programs find, and prints how often each answer came and how many were different.
+#![tactic(auto)]
+
 ghost use Rattle.drawn_towns.specs.Small.{Small};
 
 use drawn_towns::Town;

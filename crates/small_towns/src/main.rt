@@ -1,5 +1,7 @@
 // Draws small towns, compares what every call of the library but those for files answers for each with what a plain search finds, and prints how much was tried
 // and how many answers were different. The first of these are printed in full.
+#![tactic(auto)]
+
 ghost use Rattle.std.specs.Prelude.{◌≡◌, ◌+◌, ◌≤◌};
 ghost use Rattle.drawn_towns.specs.Small.{Small};
 ghost use Rattle.small_towns.specs.Counted.{Counted};

@@ -1,4 +1,6 @@
 // Shares from a list of sites, and a first division in given shares, from which a better one is then sought.
+#![tactic(auto)]
+
 ghost use Rattle.std.specs.Prelude.{◌≡◌, ℕ, ◌+◌, ◌<◌, length};
 ghost use Rattle.counting.specs.Lists.{at};
 ghost use Rattle.division.specs.Shares.{InShares, share_sum};

@@ -1,4 +1,6 @@
 // The survey: its bounds, its rows and scores, and its weights.
+#![tactic(auto)]
+
 ghost use Rattle.std.specs.Prelude.{◌≡◌, replicate};
 ghost use Rattle.counting.specs.Bounds.{most_streets, most_sites, top_score, top_weight, most_rows};
 

@@ -1,4 +1,6 @@
 // The calls on a survey itself: its check, the ranked part of a row, and the score of a row for a site.
+#![tactic(auto)]
+
 ghost use Rattle.refusals.specs.Inputs.{survey_lent, row_lent};
 ghost use Rattle.survey_calls.specs.Calls.{SurveyChecked, RowScored, RankedPart};
 

@@ -1,4 +1,6 @@
 // The survey file: its bytes, what it holds, and the one size that reader, writer and converter share.
+#![tactic(auto)]
+
 ghost use Rattle.std.specs.Prelude.{◌≡◌, ◌≤◌};
 ghost use Rattle.counting.specs.Bounds.{most_streets};
 ghost use Rattle.survey_file.specs.Decode.{weights_size};

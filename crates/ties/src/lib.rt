@@ -1,4 +1,6 @@
 // The tie pass: street by street, a best division becomes the one that is first in dictionary order.
+#![tactic(auto)]
+
 ghost use Rattle.std.specs.Prelude.{◌≡◌, true, false, ℕ, ◌+◌, ◌≤◌, ◌<◌, length};
 ghost use Rattle.counting.specs.Lists.{at, cell};
 ghost use Rattle.division.specs.Prices.{Priced, Tight};
