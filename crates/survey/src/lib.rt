@@ -42,7 +42,7 @@ impl Survey {
     pub fn empty() -> Self
         ensures sizes { (result.n ≡ 0) × (result.m ≡ 0) × (result.k ≡ 0) × (result.kind ≡ 0) }
         ensures buffers { (result.scores ≡ replicate most_sites 0) × (result.weights ≡ replicate most_streets 0) × (result.rows ≡ replicate most_rows 0) }
-        ensures* bounds { do ⌜ ((← (⟦Survey::STREETS⟧).entry) ≡ most_streets) × ((← (⟦Survey::SITES⟧).entry) ≡ most_sites) × ((← (⟦Survey::TOP_SCORE⟧).entry) ≡ top_score) × ((← (⟦Survey::TOP_WEIGHT⟧).entry) ≡ top_weight) ⌝ }
+        ensures bounds { (Self.STREETS ≡ most_streets) × (Self.SITES ≡ most_sites) × (Self.TOP_SCORE ≡ top_score) × (Self.TOP_WEIGHT ≡ top_weight) }
     {
         Self {
             n: 0,
