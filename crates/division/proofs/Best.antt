@@ -73,6 +73,8 @@ first-both (a ∷ B) (b ∷ D) (inl l) (inl m) = absurd (omega arith)
 first-both (a ∷ B) (b ∷ D) (inl l) (inr (e, g)) = absurd (omega arith)
 first-both (a ∷ B) (b ∷ D) (inr (e, f)) (inl m) = absurd (omega arith)
 first-both (a ∷ B) (b ∷ D) (inr (e, f)) (inr (q, g)) = rw (e, first-both B D f g)
+first-both [] (b ∷ D) f g = elim g [ ]
+first-both (a ∷ B) [] f g = elim f [ ]
 
 -- the best division is one of all k streets
 pub divide-length : (v : ℕ → ℕ → ℕ) (k : ℕ) (c : List ℕ) → length (divide v k c) ≡ k

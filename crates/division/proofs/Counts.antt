@@ -31,6 +31,7 @@ less-at (suc y ∷ c) zero zero h = omega arith
 less-at (y ∷ c) zero (suc x) h = rw eqb-zero-suc (omega arith)
 less-at (y ∷ c) (suc a) zero h = rw eqb-suc-zero (omega arith)
 less-at (y ∷ c) (suc a) (suc x) h = rw eqb-suc-suc (less-at c a x h)
+less-at (zero ∷ c) zero zero h = elim h [ ]
 
 -- a site's share less one street is one less, and another site's share stays
 pub share-less : (c : List ℕ) (a x : ℕ) → 0 < share c a → share (less c a) x + one (eqb a x) ≡ share c x
@@ -46,6 +47,7 @@ dot-less d c zero h = absurd (omega arith)
 dot-less d [] (suc a) h = absurd (omega arith)
 dot-less d (suc y ∷ c) (suc zero) h = omega arith
 dot-less d (y ∷ c) (suc (suc a)) h = omega (arith, dot-less (λ a. d (suc a)) c (suc a) h)
+dot-less d (zero ∷ c) (suc zero) h = elim h [ ]
 
 -- only a site of the list can have a share
 pub share-fits : (c : List ℕ) (a : ℕ) → 0 < share c a → a ≤ length c
