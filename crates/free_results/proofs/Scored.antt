@@ -16,7 +16,7 @@ use Rattle.counting.proofs.Sums.{sum_of-same, has-at, has-index}
 use Rattle.survey.specs.Town.{Town}
 use Rattle.survey.specs.Rows.{row_of, list_of_street, place_in, score_at, score, value}
 use Rattle.survey.specs.Accepted.{SoundScores}
-use Rattle.survey.proofs.Places.{place_none, place_at, place-first, score-none, score-next, scores-fall, ranked-sites}
+use Rattle.survey.proofs.Places.{place_none, place_in-at, place-first, score-none, score-next, scores-fall, ranked-sites}
 use Rattle.free_plan.specs.Greedy.{best, chosen_at, goes_to}
 use Rattle.plans.specs.Plans.{list_total, free_division, plan_total}
 use Rattle.free_plan.proofs.Weighed.{best-times}
@@ -65,7 +65,7 @@ module _ (L S : List ℕ) (sites : has 0 L ≡ false) where
           omega (arith, own, ranked scores L a j e, scores-fall scores sound i j (omega arith))
 
       bound : (a : ℕ) → has a S ≡ true → score a ≤ score (at L i)
-      bound a k = ⊎_elim (λ z. omega (arith, unranked scores L a z)) (λ p. less a k (place_at L a p)) (eq-zero-or-pos (place_in L a))
+      bound a k = ⊎_elim (λ z. omega (arith, unranked scores L a z)) (λ p. less a k (place_in-at L a p)) (eq-zero-or-pos (place_in L a))
 
 -- one street: the site it goes to scores best of the chosen sites
 pub goes-best : (scores L S : List ℕ) → SoundScores scores → has 0 L ≡ false

@@ -20,14 +20,14 @@ use Rattle.counting.proofs.Sums.{has-at, has-index}
 use Rattle.survey.specs.Town.{Town}
 use Rattle.survey.specs.Rows.{row_at, ranked_part, list_of_street, place_at, place_in, place_of, score_at, shortest_of, shortest}
 use Rattle.survey.specs.Accepted.{SoundRow, SoundScores}
-use Rattle.survey.proofs.Places.{place_at, place-some, scores-fall, ranked-sites}
+use Rattle.survey.proofs.Places.{place_in-at, place-some, scores-fall, ranked-sites}
 use Rattle.counting.proofs.Listed.{has-take}
 
 -- ---- places and scores
 -- no place is above the length of the list
 pub place-most : (L : List ℕ) (a : ℕ) → place_in L a ≤ length L
 place-most L a =
-    ⊎_elim (λ z. omega arith) (λ p. let (j, l, e, q) = place_at L a p in omega arith) (eq-zero-or-pos (place_in L a))
+    ⊎_elim (λ z. omega arith) (λ p. let (j, l, e, q) = place_in-at L a p in omega arith) (eq-zero-or-pos (place_in L a))
 
 -- a site that stands at an index has a place that is no later
 pub place-early : (L : List ℕ) (a i : ℕ) → i < length L → at L i ≡ a → 0 < place_in L a → place_in L a ≤ i + 1

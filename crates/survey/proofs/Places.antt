@@ -88,8 +88,8 @@ score-bound scores place sound = go (eqb place 0)
     go false = most (place - 1)
 
 -- a site with a place stands in the list at that place
-pub place_at : (L : List ℕ) (a : ℕ) → 0 < place_in L a → (j : ℕ) × (j < length L) × (place_in L a ≡ j + 1) × (at L j ≡ a)
-place_at L a h =
+pub place_in-at : (L : List ℕ) (a : ℕ) → 0 < place_in L a → (j : ℕ) × (j < length L) × (place_in L a ≡ j + 1) × (at L j ≡ a)
+place_in-at L a h =
     let (j, l, e, q) = first-find (length L) (place_at L a) h in
     let (t, w) = when-some (j + 1) (eqb (at L j) a) (rw e h) in
     (j, l, sym e ∙ w, eqb-true (at L j) a t)
