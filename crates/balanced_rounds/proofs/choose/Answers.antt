@@ -16,7 +16,7 @@ use Rattle.balanced_rounds.proofs.choose.Goals as goal
 pub best_site-requires : goal.best_site-requires
 best_site-requires c =
     let front : length {A = ℕ} (take (c.args.m + 1) (replicate most_width 0)) ≡ c.args.m + 1 = front_length (c.args.m + 1) most_width (omega (arith, c.requires.round_tables.0.few-sites)) in
-    let worths : List ℕ = c.fill_worths.last.1.1.1.1.1.1.0 in
+    let worths : List ℕ = c.fill_worths.new.worths in
     let filled : let a = c.args in Worths a.values.now a.m a.orders.now a.division.now a.flags.now a.q (worths) = record { size = c.fill_worths.auto.worths ∙ front; each = c.fill_worths.ensures } in
     let p = c.requires in
     let small = worths-small (filled) p.round_tables.0.small p.flags_len.1 in (
@@ -28,7 +28,7 @@ best_site-requires c =
 
 pub returns : goal.returns
 returns c =
-    let worths : List ℕ = c.fill_worths.last.1.1.1.1.1.1.0 in
+    let worths : List ℕ = c.fill_worths.new.worths in
     let front : length {A = ℕ} (take (c.args.m + 1) (replicate most_width 0)) ≡ c.args.m + 1 = front_length (c.args.m + 1) most_width (omega (arith, c.requires.round_tables.0.few-sites)) in
     let filled : let a = c.args in Worths a.values.now a.m a.orders.now a.division.now a.flags.now a.q (worths) = record { size = c.fill_worths.auto.worths ∙ front; each = c.fill_worths.ensures } in
     let a = c.args in

@@ -13,5 +13,5 @@ pub loop-j-preserved : goal.loop-j-preserved
 loop-j-preserved c =
     let l = c.loop-j in
     let p = c.requires in
-    let some = c.if-tally-eq0.left in
+    let some = c.if-tally-eq0.false in
     (omega arith, refl, adding-more l.invariant.2 (omega arith) c.step-tally.ensures (omega (arith, some)) (p.street_table.0.small _))
