@@ -1,8 +1,6 @@
 -- How a call's promise crosses to another language: its answer as one number, and the reader's sizes and form through numbers that the caller lends.
 -- Assumes nothing.
 use Rattle.std.specs.Prelude.{ℕ, zero, suc, ◌*◌, ◌≡◌, Bool, not, cond, List, eqb}
-use Rattle.std.specs.Borrow.{Bor}
-use denote.Triple.Both.{Both}
 use Rattle.survey_file.specs.Decode.{form_in, streets_in, sites_in, chosen_in, kind_in}
 use Rattle.refusals.specs.Inputs.{ReadInput}
 use Rattle.refusals.specs.Refusals.{read_refusal}
