@@ -1,5 +1,3 @@
--- `survey_calls::row_score` meets its contract. Assumes nothing.
-use borrow.Author.Rules.{rules}
 use mathlib.Core.Path.{ap, ◌∙◌}
 use Prim.Native.Nat.{ℕ, ◌*◌}
 use native.Mathlib.Nat.{one-mul}
@@ -10,9 +8,9 @@ use Rattle.call_answers.specs.declared.Answer.{Answer}
 use Rattle.call_answers.specs.Answers.{Told}
 use Rattle.call_answers.proofs.Answers.{told-refused, told-total, told_same}
 use Rattle.survey_calls.specs.Calls.{RowScored}
-use Rattle.survey_calls.proofs.row_score.Statement.{statement}
-use Rattle.survey_calls.proofs.row_score.Tie as tie
+use Rattle.survey_calls.proofs.row_score.Goals as goal
 
+-- `survey_calls::row_score` meets its contract. Assumes nothing.
 -- an answer by the counted score is one by the score, where the weight is 1
 scored : (i : RowInput) (r : Answer) → Told r (row_score_refusal i) (counted_of i.weight i.scores i.row i.site) → RowScored i r
 scored i r told =
@@ -21,17 +19,8 @@ scored i r told =
       plain = λ one. told_same (λ z. ap (λ (w : ℕ). w * score_of i.scores i.row i.site) one ∙ one-mul _) told;
     }
 
-returns : tie.Need-returns
-returns c = scored _ _ (told-refused c.before.row-score-refusal.ensures c.if1.true)
+pub returns-then-x-ne0 : goal.returns-then-x-ne0
+returns-then-x-ne0 c = scored _ _ (told-refused c.row_score_refusal-x.ensures c.if-x-ne0.true)
 
-returns-2 : tie.Need-returns-2
-returns-2 c = scored _ _ (told-total c.before.before.row-score-refusal.ensures c.before.if1.false c.counted.ensures)
-
-pub row-score-spec : {M : Type 1} → statement M
-row-score-spec =
-    tie.close
-    (tie.spec
-    (λ c κs. search rules)
-    returns
-    (λ c κs. search rules)
-    returns-2)
+pub returns : goal.returns
+returns c = scored _ _ (told-total c.row_score_refusal-x.ensures c.if-x-ne0.false c.counted.ensures)
