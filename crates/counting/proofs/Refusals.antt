@@ -10,7 +10,7 @@ use native.Mathlib.Omega.{arith}
 use mathlib.Core.Logic.{⊎_elim}
 use lib.Dec.{ltb, eqb, lit<}
 use borrow.Author.Tests.{lt-ltb, le-ltb, eq-eqb, ne_eqb, ltb-false, eqb-true}
-use Rattle.counting.specs.Words.{◌when◌, ◌unless◌, ◌or_else◌, first_of, outside}
+use Rattle.counting.specs.Words.{◌when◌, ◌unless◌, ◌or_else◌, first_nonzero, outside}
 
 -- a number where its test holds, and 0 where it fails
 pub when-yes : (x : ℕ) (t : Bool) → t ≡ true → x ≡ x when t
@@ -110,45 +110,45 @@ pub positive-ltb : (i : ℕ) → (i ≡ 0 → ⊥) → ltb 0 i ≡ true
 positive-ltb i h = lt-ltb 0 i (omega arith)
 
 -- a loop that has passed the first i: it starts with none, stops at the first refusal, goes on past each that is 0, and ends with none
-pub first-start : (f : ℕ → ℕ) → first_of 0 f ≡ 0
-unfolding first_of
+pub first-start : (f : ℕ → ℕ) → first_nonzero 0 f ≡ 0
+unfolding first_nonzero
 first-start f = refl
 
-first-zero : (n : ℕ) (f : ℕ → ℕ) → first_of n f ≡ 0 → f n ≡ 0 → first_of (suc n) f ≡ 0
-unfolding first_of
-first-zero n f h e = sym (or-pass 0 (first_of n f) (first_of n f) (f n) refl h (sym e))
+first-zero : (n : ℕ) (f : ℕ → ℕ) → first_nonzero n f ≡ 0 → f n ≡ 0 → first_nonzero (suc n) f ≡ 0
+unfolding first_nonzero
+first-zero n f h e = sym (or-pass 0 (first_nonzero n f) (first_nonzero n f) (f n) refl h (sym e))
 
-pub first_next : (i : ℕ) (f : ℕ → ℕ) (r : ℕ) → first_of i f ≡ 0 → r ≡ f i → r ≡ 0 → first_of (i + 1) f ≡ 0
+pub first_next : (i : ℕ) (f : ℕ → ℕ) (r : ℕ) → first_nonzero i f ≡ 0 → r ≡ f i → r ≡ 0 → first_nonzero (i + 1) f ≡ 0
 first_next i f r h e z = rw add-one (first-zero i f h (sym e ∙ z))
 
-stays : (k r : ℕ) (f : ℕ → ℕ) (i : ℕ) → r ≡ first_of i f → (r ≡ 0 → ⊥) → r ≡ first_of (k + i) f
-unfolding first_of
+stays : (k r : ℕ) (f : ℕ → ℕ) (i : ℕ) → r ≡ first_nonzero i f → (r ≡ 0 → ⊥) → r ≡ first_nonzero (k + i) f
+unfolding first_nonzero
 stays zero r f i e h = rw zero-add e
 stays (suc k) r f i e h =
     let e' : suc k + i ≡ suc (k + i) = omega arith in
-    or-stop r (first_of (k + i) f) (f (k + i)) (stays k r f i e h) h ∙ ap (λ (m : ℕ). first_of m f) (sym e')
+    or-stop r (first_nonzero (k + i) f) (f (k + i)) (stays k r f i e h) h ∙ ap (λ (m : ℕ). first_nonzero m f) (sym e')
 
-first-at : (i : ℕ) (f : ℕ → ℕ) (r : ℕ) → first_of i f ≡ 0 → r ≡ f i → r ≡ first_of (suc i) f
-unfolding first_of
-first-at i f r h e = or-pass r (first_of i f) (first_of i f) (f i) refl h e
+first-at : (i : ℕ) (f : ℕ → ℕ) (r : ℕ) → first_nonzero i f ≡ 0 → r ≡ f i → r ≡ first_nonzero (suc i) f
+unfolding first_nonzero
+first-at i f r h e = or-pass r (first_nonzero i f) (first_nonzero i f) (f i) refl h e
 
-pub first_found : (i n : ℕ) (f : ℕ → ℕ) (r : ℕ) → i < n → first_of i f ≡ 0 → r ≡ f i → (r ≡ 0 → ⊥) → r ≡ first_of n f
+pub first_found : (i n : ℕ) (f : ℕ → ℕ) (r : ℕ) → i < n → first_nonzero i f ≡ 0 → r ≡ f i → (r ≡ 0 → ⊥) → r ≡ first_nonzero n f
 first_found i n f r l h e z =
     let s : n - suc i + suc i ≡ n = omega arith in
     rw s at (stays (n - suc i) r f (suc i) (first-at i f r h e) z)
 
-pub first_done : (i n : ℕ) (f : ℕ → ℕ) → n ≤ i → i ≤ n → first_of i f ≡ 0 → 0 ≡ first_of n f
+pub first_done : (i n : ℕ) (f : ℕ → ℕ) → n ≤ i → i ≤ n → first_nonzero i f ≡ 0 → 0 ≡ first_nonzero n f
 first_done i n f a b h = sym (rw (le_antisymm b a) at h)
 
 -- the same where the loop counts to an end that is n
-pub first-found-end : (i e n : ℕ) (f : ℕ → ℕ) (r : ℕ) → i < e → e ≡ n → first_of i f ≡ 0 → r ≡ f i → (r ≡ 0 → ⊥) → r ≡ first_of n f
+pub first-found-end : (i e n : ℕ) (f : ℕ → ℕ) (r : ℕ) → i < e → e ≡ n → first_nonzero i f ≡ 0 → r ≡ f i → (r ≡ 0 → ⊥) → r ≡ first_nonzero n f
 first-found-end i e n f r l q h g z = first_found i n f r (rw q at l) h g z
 
-pub first-done-end : (i e n : ℕ) (f : ℕ → ℕ) → e ≤ i → i ≤ e → e ≡ n → first_of i f ≡ 0 → 0 ≡ first_of n f
+pub first-done-end : (i e n : ℕ) (f : ℕ → ℕ) → e ≤ i → i ≤ e → e ≡ n → first_nonzero i f ≡ 0 → 0 ≡ first_nonzero n f
 first-done-end i e n f a b q h = first_done i n f (rw q at a) (rw q at b) h
 
 -- a loop whose test stands in its body: nothing is refused at i, and the turn goes on
-pub first-quiet : (i : ℕ) (f : ℕ → ℕ) → first_of i f ≡ 0 → 0 ≡ f i → first_of (i + 1) f ≡ 0
+pub first-quiet : (i : ℕ) (f : ℕ → ℕ) → first_nonzero i f ≡ 0 → 0 ≡ f i → first_nonzero (i + 1) f ≡ 0
 first-quiet i f h e = first_next i f 0 h e refl
 
 pub next-positive : (i : ℕ) → i + 1 ≡ 0 → ⊥
@@ -191,33 +191,33 @@ pub exact : (x y due : ℕ) → 0 < x → x unless eqb y due ≡ 0 → y ≡ due
 exact x y due h e = eqb-true y due (unless-zero x (eqb y due) h e)
 
 -- none of the first n is refused
-pub first-none : (n : ℕ) (f : ℕ → ℕ) → first_of n f ≡ 0 → (i : ℕ) → i < n → f i ≡ 0
-unfolding first_of
+pub first-none : (n : ℕ) (f : ℕ → ℕ) → first_nonzero n f ≡ 0 → (i : ℕ) → i < n → f i ≡ 0
+unfolding first_nonzero
 first-none zero f e i l = absurd (not-suc-le-zero l)
 first-none (suc n) f e i l =
-    let z = or-zero (first_of n f) (f n) e in
+    let z = or-zero (first_nonzero n f) (f n) e in
     ⊎_elim (λ q. ap f q ∙ z.1) (λ lt. first-none n f z.0 i lt) (eq-or-lt_of_le (le_of_suc-le-suc l))
 
 -- what the first n are decides which is found
-pub first-same : (n : ℕ) (f g : ℕ → ℕ) → ((i : ℕ) → i < n → f i ≡ g i) → first_of n f ≡ first_of n g
-unfolding first_of
+pub first-same : (n : ℕ) (f g : ℕ → ℕ) → ((i : ℕ) → i < n → f i ≡ g i) → first_nonzero n f ≡ first_nonzero n g
+unfolding first_nonzero
 first-same zero f g h = refl
 first-same (suc n) f g h = rw (first-same n f g (λ i l. h i (omega arith)), h n (omega arith))
 
 -- the first of numbers that are all 0 is 0
-pub first-zeros : (n : ℕ) (f : ℕ → ℕ) → ((i : ℕ) → i < n → f i ≡ 0) → first_of n f ≡ 0
-unfolding first_of
+pub first-zeros : (n : ℕ) (f : ℕ → ℕ) → ((i : ℕ) → i < n → f i ≡ 0) → first_nonzero n f ≡ 0
+unfolding first_nonzero
 first-zeros zero f h = refl
-first-zeros (suc n) f h = sym (or-pass 0 (first_of n f) (first_of n f) (f n) refl (first-zeros n f (λ i l. h i (omega arith))) (sym (h n (omega arith))))
+first-zeros (suc n) f h = sym (or-pass 0 (first_nonzero n f) (first_nonzero n f) (f n) refl (first-zeros n f (λ i l. h i (omega arith))) (sym (h n (omega arith))))
 
 -- the first number that is not 0 stands at an index, and before it stand zeros alone
-pub first-find : (n : ℕ) (f : ℕ → ℕ) → 0 < first_of n f → (i : ℕ) × (i < n) × (f i ≡ first_of n f) × ((j : ℕ) → j < i → f j ≡ 0)
-unfolding first_of
+pub first-find : (n : ℕ) (f : ℕ → ℕ) → 0 < first_nonzero n f → (i : ℕ) × (i < n) × (f i ≡ first_nonzero n f) × ((j : ℕ) → j < i → f j ≡ 0)
+unfolding first_nonzero
 first-find zero f h = absurd (omega arith)
 first-find (suc n) f h =
-    ⊎_elim (λ z. (n, omega arith, own-pass (f n) (first_of n f) (f n) z refl, first-none n f z))
-    (λ p. let (i, l, e, q) = first-find n f p in (i, omega arith, e ∙ own-stop (first_of n f) (f n) (λ z. omega arith), q))
-    (eq-zero-or-pos (first_of n f))
+    ⊎_elim (λ z. (n, omega arith, own-pass (f n) (first_nonzero n f) (f n) z refl, first-none n f z))
+    (λ p. let (i, l, e, q) = first-find n f p in (i, omega arith, e ∙ own-stop (first_nonzero n f) (f n) (λ z. omega arith), q))
+    (eq-zero-or-pos (first_nonzero n f))
 
 -- a number that is above 0 where its test holds is itself, and the test holds
 pub when-some : (x : ℕ) (t : Bool) → 0 < (x when t) → (t ≡ true) × (x when t ≡ x)

@@ -20,9 +20,9 @@ zero or_else y = y
 suc x or_else y = suc x
 
 -- the first of f 0, f 1, .., f (n - 1) that is not 0, and 0 where each of them is
-unfoldable pub first_of : ℕ → (ℕ → ℕ) → ℕ
-first_of zero f = 0
-first_of (suc n) f = first_of n f or_else f n
+unfoldable pub first_nonzero : ℕ → (ℕ → ℕ) → ℕ
+first_nonzero zero f = 0
+first_nonzero (suc n) f = first_nonzero n f or_else f n
 
 -- the sum of f 0, f 1, .., f (n - 1)
 abbrev pub sum_of : ℕ → (ℕ → ℕ) → ℕ

@@ -33,12 +33,12 @@ agree-cons a b D E t e g zero l = sym e
 agree-cons a b D E t e g (suc u) l = g u (le_of_suc-le-suc l)
 
 -- one that has no higher site at the first street where they differ is first in dictionary order
-first_of : (D E : List ℕ) → length D ≡ length E → ((t : ℕ) → t < length D → Agree D E t → at D t ≤ at E t) → First D E
-first_of [] E e h = tt
-first_of (a ∷ D) [] e h = absurd (omega arith)
-first_of (a ∷ D) (b ∷ E) e h =
+first-agree : (D E : List ℕ) → length D ≡ length E → ((t : ℕ) → t < length D → Agree D E t → at D t ≤ at E t) → First D E
+first-agree [] E e h = tt
+first-agree (a ∷ D) [] e h = absurd (omega arith)
+first-agree (a ∷ D) (b ∷ E) e h =
     let low : a ≤ b = h 0 (omega arith) (λ u l. absurd (omega arith)) in
-    let rest : a ≡ b → First D E = λ q. first_of D E (suc_inj e) (λ t l g. h (suc t) (suc-le-suc l) (agree-cons a b D E t q g)) in
+    let rest : a ≡ b → First D E = λ q. first-agree D E (suc_inj e) (λ t l g. h (suc t) (suc-le-suc l) (agree-cons a b D E t q g)) in
     ⊎_elim (λ q. inr (q, rest q)) inl (eq-or-lt_of_le low)
 
 module _ (v : ℕ → ℕ → ℕ) (d : ℕ → ℕ) (c D : List ℕ) (i : InShares D c) (p : Priced v d c D) where
@@ -57,4 +57,4 @@ module _ (v : ℕ → ℕ → ℕ) (d : ℕ → ℕ) (c D : List ℕ) (i : InSha
   pub first-best : FirstTo v c D (length D) → D ≡ divide v (length D) c
   first-best f =
       let long : (E : List ℕ) → InShares E c → length D ≡ length E = λ E j. in-length D c i ∙ sym (in-length E c j) in
-      divide-only v (length D) c (sym (in-length D c i)) D i (weak v d c D i p) (λ E j e. first_of D E (long E j) (f E j e))
+      divide-only v (length D) c (sym (in-length D c i)) D i (weak v d c D i p) (λ E j e. first-agree D E (long E j) (f E j e))

@@ -10,7 +10,7 @@ use lib.ListN.{length, take, drop, length-drop}
 use lib.Seq.{take_all, drop-drop}
 use types.Run.{OneOf}
 use denote.Enum.Declared.{tag_of}
-use Rattle.counting.specs.Words.{◌or_else◌, first_of}
+use Rattle.counting.specs.Words.{◌or_else◌, first_nonzero}
 use Rattle.counting.specs.Lists.{at}
 use Rattle.counting.proofs.Refusals.{or-stop, or-pass, or-zero, first_found, first_next}
 use Rattle.survey_file.specs.Encode.{street_mark, end_mark}
@@ -64,26 +64,26 @@ module _ (file streets : List ℕ) (m here i : ℕ) (rest-is : drop here file �
       ∙ ap (past streets) (sym next)
 
   -- an answer that is no street ends the walk
-  pub street-stops : (n r : ℕ) (answer : Record) → i < n → first_of i (street_record m streets) ≡ 0
+  pub street-stops : (n r : ℕ) (answer : Record) → i < n → first_nonzero i (street_record m streets) ≡ 0
       → answer ≡ record_of (due.Street m (i + 1)) (drop here file) → OneOf (0 ∷ 1 ∷ 2 ∷ 4 ∷ 5 ∷ []) (tag_of record-type.the_type answer) → r ≡ number_of answer
       → r ≡ streets_and_end n m streets
   street-stops n r answer l quiet is other e =
       let number = number_is (due.Street m (i + 1)) (drop here file) answer is r e in
       let some : r ≡ 0 → ⊥ = λ z. some-refusal (due.Street m (i + 1)) (drop here file) answer is (0 ∷ 1 ∷ 2 ∷ 4 ∷ 5 ∷ []) other tt (sym number ∙ z) in
-      or-stop r (first_of n (street_record m streets)) (mark_refusal end_mark (past streets n) or_else end_fields (past streets n))
+      or-stop r (first_nonzero n (street_record m streets)) (mark_refusal end_mark (past streets n) or_else end_fields (past streets n))
       (first_found i n (street_record m streets) r l quiet (street-is r number) some) some
 
   -- one that is not leads on
-  pub street-passes : first_of i (street_record m streets) ≡ 0 → record_refusal (due.Street m (i + 1)) (drop here file) ≡ 0
-      → first_of (i + 1) (street_record m streets) ≡ 0
+  pub street-passes : first_nonzero i (street_record m streets) ≡ 0 → record_refusal (due.Street m (i + 1)) (drop here file) ≡ 0
+      → first_nonzero (i + 1) (street_record m streets) ≡ 0
   street-passes quiet z = first_next i (street_record m streets) _ quiet (street-is _ refl) z
 
   -- behind the last street stands the end
-  pub end_is : (n r : ℕ) → n ≤ i → i ≤ n → first_of i (street_record m streets) ≡ 0 → r ≡ record_refusal due.End (drop here file) → r ≡ streets_and_end n m streets
+  pub end_is : (n r : ℕ) → n ≤ i → i ≤ n → first_nonzero i (street_record m streets) ≡ 0 → r ≡ record_refusal due.End (drop here file) → r ≡ streets_and_end n m streets
   unfolding mark_of
   end_is n r a b quiet e =
       let last : i ≡ n = le_antisymm b a in
       let rest_end : drop here file ≡ past streets n = rest-is ∙ ap (past streets) last in
-      let all : first_of n (street_record m streets) ≡ 0 = rw last at quiet in
-      or-pass r 0 (first_of n (street_record m streets)) (mark_refusal end_mark (past streets n) or_else end_fields (past streets n)) (sym all) refl
+      let all : first_nonzero n (street_record m streets) ≡ 0 = rw last at quiet in
+      or-pass r 0 (first_nonzero n (street_record m streets)) (mark_refusal end_mark (past streets n) or_else end_fields (past streets n)) (sym all) refl
       (e ∙ ap (λ (rest : List ℕ). mark_refusal end_mark rest or_else end_fields rest) rest_end)

@@ -1,7 +1,7 @@
 -- The free plan, as document 01 has it: greedy Chamberlin-Courant over any value `v street site`, from any list of sites.
 -- Assumes nothing.
 use Rattle.std.specs.Prelude.{ℕ, zero, suc, max, Bool, List, [], ◌∷◌, ◌++◌, length}
-use Rattle.counting.specs.Words.{◌when◌, first_of, sum_of}
+use Rattle.counting.specs.Words.{◌when◌, first_nonzero, sum_of}
 use Rattle.counting.specs.Lists.{at}
 use Rattle.counting.specs.Greatest.{greatest, unchosen}
 
@@ -33,4 +33,4 @@ chosen_at chosen list j = at list j when chosen (at list j)
 
 -- where a street goes: to the first of its list that is chosen, which is the chosen site with its best place; 0 (unserved) if it ranked none
 abbrev pub goes_to : (ℕ → Bool) → List ℕ → ℕ
-goes_to chosen list = first_of (length list) (chosen_at chosen list)
+goes_to chosen list = first_nonzero (length list) (chosen_at chosen list)

@@ -10,17 +10,17 @@ use lib.Dec.{eqb}
 use lib.ListN.{length, drop}
 use lib.Seq.{drop-cons, drop-length}
 use borrow.Author.Tests.{ne_eqb}
-use Rattle.counting.specs.Words.{◌when◌, ◌or_else◌, first_of}
+use Rattle.counting.specs.Words.{◌when◌, ◌or_else◌, first_nonzero}
 use Rattle.counting.specs.Lists.{at}
 use Rattle.counting.proofs.Refusals.{or-none, group, or-stop, own-pass, when-yes, when-none}
 use Rattle.survey.specs.Rows.{ranked_part}
 use Rattle.free_plan.specs.Greedy.{goes_to, chosen_at}
 
 -- the first number apart
-first-front : (n : ℕ) (f : ℕ → ℕ) → first_of (suc n) f ≡ f 0 or_else first_of n (λ i. f (suc i))
-unfolding first_of ◌or_else◌
+first-front : (n : ℕ) (f : ℕ → ℕ) → first_nonzero (suc n) f ≡ f 0 or_else first_nonzero n (λ i. f (suc i))
+unfolding first_nonzero ◌or_else◌
 first-front zero f = sym (or-none (f 0))
-first-front (suc n) f = ap (λ (x : ℕ). x or_else f (suc n)) (first-front n f) ∙ group (f 0) (first_of n (λ i. f (suc i))) (f (suc n))
+first-front (suc n) f = ap (λ (x : ℕ). x or_else f (suc n)) (first-front n f) ∙ group (f 0) (first_nonzero n (λ i. f (suc i))) (f (suc n))
 
 module _ (chosen : ℕ → Bool) where
   -- a street goes to the first of its list where that is chosen, else where the rest sends it
@@ -29,7 +29,7 @@ module _ (chosen : ℕ → Bool) where
 
   -- by an empty list to none
   goes_none : goes_to chosen [] ≡ 0
-  unfolding first_of
+  unfolding first_nonzero
   goes_none = refl
 
   module _ (row : List ℕ) (j : ℕ) (so : goes_to chosen (ranked_part row) ≡ goes_to chosen (ranked_part (drop j row))) where

@@ -2,7 +2,7 @@
 -- division is the list of the streets' sites; limits are counted from 0, so the limit of site 1 stands first.
 -- Assumes nothing.
 use Rattle.std.specs.Prelude.{ℕ, suc, ◌≤◌, ◌<◌, List, ltb, eqb, length}
-use Rattle.counting.specs.Words.{◌when◌, ◌or_else◌, first_of}
+use Rattle.counting.specs.Words.{◌when◌, ◌or_else◌, first_nonzero}
 use Rattle.counting.specs.Lists.{at}
 use Rattle.survey.specs.Town.{Lent, was}
 use Rattle.survey.specs.Refusals.{length_refusal}
@@ -44,7 +44,7 @@ lengths_refusal n m l =
 
 -- 21: a load or limit above 1,000,000
 abbrev pub above_refusal : List ℕ → ℕ
-above_refusal numbers = first_of (length numbers) (λ j. 21 when ltb most_load (at numbers j))
+above_refusal numbers = first_nonzero (length numbers) (λ j. 21 when ltb most_load (at numbers j))
 
 -- in any of the four lists
 abbrev pub loads_refusal : Loads → ℕ
@@ -68,7 +68,7 @@ over_refusal number l division i = number when ltb (at l.limits i) (site_load l 
 
 -- 22 and 23: the sites by number, at each of them kilograms before litres
 abbrev pub limits_refusal : ℕ → Loads → List ℕ → ℕ
-limits_refusal m l division = first_of m (λ i. over_refusal 22 l.kilograms division i or_else over_refusal 23 l.litres division i)
+limits_refusal m l division = first_nonzero m (λ i. over_refusal 22 l.kilograms division i or_else over_refusal 23 l.litres division i)
 
 -- each site's load of one kind is within its limit
 abbrev pub Fits : ℕ → Load → List ℕ → Type 0

@@ -13,7 +13,7 @@ use lib.ListN.{length, take, drop, length-drop}
 use lib.Seq.{length-take-le, take_all, take-take, get_or-take}
 use borrow.Author.Tests.{lt-ltb, ltb-false}
 use Rattle.counting.specs.Bounds.{most_streets, most_sites}
-use Rattle.counting.specs.Words.{◌when◌, ◌unless◌, ◌or_else◌, first_of}
+use Rattle.counting.specs.Words.{◌when◌, ◌unless◌, ◌or_else◌, first_nonzero}
 use Rattle.counting.specs.Lists.{at}
 use Rattle.counting.proofs.Refusals.{or-zero, when-zero, within}
 use Rattle.survey_file.specs.Encode.{town_mark, scores_mark, weights_mark, street_mark, end_mark, most_file}
@@ -34,11 +34,11 @@ or_same zero b c h = h refl
 or_same (suc a) b c h = refl
 
 -- and of many each only where those before refuse nothing
-first-until : (n : ℕ) (f g : ℕ → ℕ) → ((i : ℕ) → i < n → first_of i g ≡ 0 → f i ≡ g i) → first_of n f ≡ first_of n g
-unfolding first_of
+first-until : (n : ℕ) (f g : ℕ → ℕ) → ((i : ℕ) → i < n → first_nonzero i g ≡ 0 → f i ≡ g i) → first_nonzero n f ≡ first_nonzero n g
+unfolding first_nonzero
 first-until zero f g h = refl
 first-until (suc n) f g h =
-    ap (λ (x : ℕ). x or_else f n) (first-until n f g (λ i l. h i (omega arith))) ∙ or_same (first_of n g) (f n) (g n) (h n (omega arith))
+    ap (λ (x : ℕ). x or_else f n) (first-until n f g (λ i l. h i (omega arith))) ∙ or_same (first_nonzero n g) (f n) (g n) (h n (omega arith))
 
 drop-take : (a k : ℕ) (list : List ℕ) → drop a (take k list) ≡ take (k - a) (drop a list)
 drop-take zero k list = rw (sub-zero k)
@@ -95,7 +95,7 @@ module _ (k : ℕ) (rest : List ℕ) (long : k ≤ length rest) where
 
   same-street : (m number : ℕ) → 5 + m ≤ k → street_fields m number (take k rest) ≡ street_fields m number rest
   same-street m number l =
-      let bytes : List ℕ → ℕ = λ list. first_of (length list) (byte_field m list) in
+      let bytes : List ℕ → ℕ = λ list. first_nonzero (length list) (byte_field m list) in
       let x : ℕ = at rest 4 in
       rw (same-short 5 (omega arith), same_word 2 (omega arith), same_at 4 (omega arith))
       (or_same (short_refusal rest 5) _ _ (λ a.
@@ -135,21 +135,21 @@ module _ (m n size : ℕ) (streets : List ℕ) (few : m ≤ most_sites) (room : 
         enough = omega (arith, w.enough);
       }
 
-  left-all : (i : ℕ) → i ≤ n → first_of i (street_record m streets) ≡ 0 → Left streets size i
-  unfolding first_of
+  left-all : (i : ℕ) → i ≤ n → first_nonzero i (street_record m streets) ≡ 0 → Left streets size i
+  unfolding first_nonzero
   left-all zero l e = left-first
   left-all (suc i) l e =
-      let (before, this) = or-zero (first_of i (street_record m streets)) (street_record m streets i) e in
+      let (before, this) = or-zero (first_nonzero i (street_record m streets)) (street_record m streets i) e in
       left-next i l (street-says m (suc i) (past streets i) this).short (left-all i (omega arith) before)
 
-  same-record : (i : ℕ) → i < n → first_of i (street_record m streets) ≡ 0 → street_record m (take size streets) i ≡ street_record m streets i
+  same-record : (i : ℕ) → i < n → first_nonzero i (street_record m streets) ≡ 0 → street_record m (take size streets) i ≡ street_record m streets i
   same-record i l e =
       let w = left-all i (omega arith) e in
       let much : longest + 3 ≤ w.left = omega (arith, w.enough) in
       let rest : List ℕ = past streets i in
       rw (w.cut, same-mark w.left rest w.there street_mark (omega arith), same-street w.left rest w.there m (suc i) (omega arith))
 
-  same_end : first_of n (street_record m streets) ≡ 0 → end_tries (past (take size streets) n) ≡ end_tries (past streets n)
+  same_end : first_nonzero n (street_record m streets) ≡ 0 → end_tries (past (take size streets) n) ≡ end_tries (past streets n)
   same_end e =
       let w = left-all n (omega arith) e in
       let much : 3 ≤ w.left = omega (arith, w.enough) in
@@ -163,7 +163,7 @@ module _ (m n size : ℕ) (streets : List ℕ) (few : m ≤ most_sites) (room : 
   same-streets =
       ap (λ (x : ℕ). x or_else end_tries (past (take size streets) n))
       (first-until n (street_record m (take size streets)) (street_record m streets) same-record)
-      ∙ or_same (first_of n (street_record m streets)) _ _ same_end
+      ∙ or_same (first_nonzero n (street_record m streets)) _ _ same_end
 
 -- ---- the file
 module _ (most : ℕ) (file : List ℕ) (much : most_file < most) (long : most ≤ length file) where

@@ -4,7 +4,7 @@ use mathlib.Core.Path.{◌≡◌, refl}
 use mathlib.Core.Bool.{false}
 use mathlib.Core.List.{List, [], ◌∷◌, ◌++◌}
 use Prim.Native.Nat.{ℕ}
-use Rattle.counting.specs.Words.{◌when◌, ◌unless◌, ◌or_else◌, first_of}
+use Rattle.counting.specs.Words.{◌when◌, ◌unless◌, ◌or_else◌, first_nonzero}
 use Rattle.counting.specs.Lists.{count}
 use Rattle.counting.specs.Greatest.{seek, greatest}
 use Rattle.counting.specs.Buffers.{joined}
@@ -77,6 +77,6 @@ p8-text site =
 -- an unserved street has site 0, and a site that is not ranked place 0
 pub worked : (printed p5 ≡ p5-text) × (printed p5-new ≡ p5-new-text) × (printed [] ≡ text-12) × (printed p7 ≡ p7-text) × (printed few ≡ refused_line 5)
     × (printed (p8 0) ≡ p8-text 48) × (printed (p8 1) ≡ p8-text 49)
-unfolding ◌when◌ ◌unless◌ ◌or_else◌ first_of count seek greatest joined share less division_total divide ordered rounds encode past file_refusal digits plan_text
+unfolding ◌when◌ ◌unless◌ ◌or_else◌ first_nonzero count seek greatest joined share less division_total divide ordered rounds encode past file_refusal digits plan_text
     printed
 worked = (refl, refl, refl, refl, refl, refl, refl)

@@ -3,7 +3,7 @@
 -- Assumes nothing.
 use Rattle.std.specs.Prelude.{ℕ, suc, ◌-◌, ◌≡◌, Bool, List, ltb, eqb, length, take}
 use Rattle.counting.specs.Bounds.{most_streets, most_sites, most_rows}
-use Rattle.counting.specs.Words.{◌when◌, ◌unless◌, ◌or_else◌, first_of, count_of, outside}
+use Rattle.counting.specs.Words.{◌when◌, ◌unless◌, ◌or_else◌, first_nonzero, count_of, outside}
 use Rattle.counting.specs.Lists.{at, has, count}
 use Rattle.survey.specs.Town.{Town}
 use Rattle.survey.specs.Rows.{value}
@@ -43,11 +43,11 @@ row_score_refusal i =
 
 -- 17 all through a list
 abbrev pub ranges_refusal : ℕ → ℕ → List ℕ → ℕ
-ranges_refusal low m sites = first_of (length sites) (λ j. range_refusal low m (at sites j))
+ranges_refusal low m sites = first_nonzero (length sites) (λ j. range_refusal low m (at sites j))
 
 -- 20: a site listed twice
 abbrev pub twice_refusal : List ℕ → ℕ
-twice_refusal sites = first_of (length sites) (λ j. 20 when has (at sites j) (take j sites))
+twice_refusal sites = first_nonzero (length sites) (λ j. 20 when has (at sites j) (take j sites))
 
 -- a given list of sites: 17 all through, then 20
 abbrev pub list_refusal : ℕ → List ℕ → ℕ

@@ -13,7 +13,7 @@ use lib.ListN.{length, length-append, get_or-append}
 use lib.Seq.{get_or_at}
 use borrow.Author.Tests.{eq-eqb, ne_eqb, eqb-true, eqb-false}
 use Rattle.counting.specs.Bounds.{top_score, most_value}
-use Rattle.counting.specs.Words.{◌when◌, ◌unless◌, ◌or_else◌, first_of}
+use Rattle.counting.specs.Words.{◌when◌, ◌unless◌, ◌or_else◌, first_nonzero}
 use Rattle.counting.specs.Lists.{at, has}
 use Rattle.counting.proofs.Refusals.{or-pass, or-none, or-neither, when-yes, when-none, when-zero, when-some, unless-yes, unless-none, first-none, first_found, first-find, first-same, first-zeros}
 use Rattle.counting.proofs.Membership.{cond-at, has-none}
@@ -40,11 +40,11 @@ place-some L a e = ⊎_elim (λ z. absurd (true≢false (sym e ∙ none z))) (λ
 
 -- a list with one site more: the places that it had, and the last place for a site that had none
 pub place-snoc : (L : List ℕ) (b a : ℕ) → place_in (L ++ (b ∷ [])) a ≡ place_in L a or_else (length L + 1) when eqb b a
-unfolding first_of
+unfolding first_nonzero
 place-snoc L b a =
     let size : length (L ++ (b ∷ [])) ≡ suc (length L) = omega (arith, length-append L (b ∷ [])) in
     let new : at (L ++ (b ∷ [])) (length L) ≡ b = get_or_at L b [] 0 (length L) refl in
-    ap (λ (n : ℕ). first_of n more) size ∙ ap (λ (x : ℕ). x or_else more (length L)) (first-same (length L) more (place_at L a) same)
+    ap (λ (n : ℕ). first_nonzero n more) size ∙ ap (λ (x : ℕ). x or_else more (length L)) (first-same (length L) more (place_at L a) same)
     ∙ ap (λ (x : ℕ). place_in L a or_else (length L + 1) when eqb x a) new
   where
     more : ℕ → ℕ

@@ -2,7 +2,7 @@
 -- Assumes nothing.
 use Rattle.std.specs.Prelude.{ℕ, ◌*◌, ◌-◌, Bool, ◌&&◌, List, ltb, eqb, length, take}
 use Rattle.counting.specs.Bounds.{most_streets, most_sites, top_score, top_weight}
-use Rattle.counting.specs.Words.{◌when◌, ◌unless◌, ◌or_else◌, first_of, outside}
+use Rattle.counting.specs.Words.{◌when◌, ◌unless◌, ◌or_else◌, first_nonzero, outside}
 use Rattle.counting.specs.Lists.{at, has}
 use Rattle.survey.specs.Town.{Town}
 use Rattle.survey.specs.Rows.{row_at}
@@ -39,7 +39,7 @@ score_refusal scores i =
 
 -- the scores, in their order
 abbrev pub scores_refusal : List ℕ → ℕ
-scores_refusal scores = first_of (length scores) (score_refusal scores)
+scores_refusal scores = first_nonzero (length scores) (score_refusal scores)
 
 -- 24: a weight outside 1 to 99
 abbrev pub weight_refusal : ℕ → ℕ
@@ -47,7 +47,7 @@ weight_refusal weight = 24 when outside weight 1 top_weight
 
 -- the weights, by street
 abbrev pub weights_refusal : List ℕ → ℕ
-weights_refusal weights = first_of (length weights) (λ i. weight_refusal (at weights i))
+weights_refusal weights = first_nonzero (length weights) (λ i. weight_refusal (at weights i))
 
 -- 9, 10, 11: a byte of a row, where a zero and where the same byte stands before it
 abbrev pub site_refusal : ℕ → Bool → Bool → ℕ → ℕ
@@ -62,7 +62,7 @@ byte_refusal m row j = site_refusal m (has 0 (take j row)) (has (at row j) (take
 
 -- a row, byte by byte
 abbrev pub row_refusal : ℕ → List ℕ → ℕ
-row_refusal m row = first_of (length row) (byte_refusal m row)
+row_refusal m row = first_nonzero (length row) (byte_refusal m row)
 
 -- the row at the index i
 abbrev pub street_refusal : ℕ → List ℕ → ℕ → ℕ
@@ -70,7 +70,7 @@ street_refusal m rows i = row_refusal m (row_at m rows i)
 
 -- the rows, by street and byte
 abbrev pub rows_refusal : ℕ → ℕ → List ℕ → ℕ
-rows_refusal n m rows = first_of n (street_refusal m rows)
+rows_refusal n m rows = first_nonzero n (street_refusal m rows)
 
 -- what the survey holds: the scores, the weights, then the rows
 abbrev pub held_refusal : Town → ℕ

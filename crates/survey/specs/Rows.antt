@@ -2,7 +2,7 @@
 -- Assumes nothing.
 use Rattle.std.specs.Prelude.{ℕ, zero, suc, ◌+◌, ◌-◌, ◌*◌, ◌≤◌, ◌<◌, min, ◌≡◌, cond, List, [], ◌∷◌, eqb, length, take, drop}
 use Rattle.counting.specs.Bounds.{top_weight}
-use Rattle.counting.specs.Words.{◌when◌, ◌unless◌, first_of}
+use Rattle.counting.specs.Words.{◌when◌, ◌unless◌, first_nonzero}
 use Rattle.counting.specs.Lists.{at}
 use Rattle.survey.specs.Town.{Town}
 
@@ -21,7 +21,7 @@ place_at list site j = (j + 1) when eqb (at list j) site
 
 -- the place of a site in a list, 1 the best; 0 where the list has no such site
 abbrev pub place_in : List ℕ → ℕ → ℕ
-place_in list site = first_of (length list) (place_at list site)
+place_in list site = first_nonzero (length list) (place_at list site)
 
 -- the score at a place; no place scores 0
 abbrev pub score_at : List ℕ → ℕ → ℕ

@@ -6,7 +6,7 @@ use Prim.Native.Nat.{ℕ, suc, ◌+◌, ◌*◌, ◌≤◌, ◌<◌}
 use lib.Dec.{ltb, lit<}
 use lib.ListN.{length}
 use borrow.Author.Tests.{ltb-false}
-use Rattle.counting.specs.Words.{◌or_else◌, first_of}
+use Rattle.counting.specs.Words.{◌or_else◌, first_nonzero}
 use Rattle.counting.specs.Lists.{at}
 use Rattle.counting.proofs.Refusals.{or-zero, when-zero, exact, first-none}
 use Rattle.survey.specs.Town.{town}
@@ -107,7 +107,7 @@ file-says file e =
     let (a, e₁) = or-zero (mark_refusal (town_mark (form_in file)) file or_else town_fields file) (scores or_else weights or_else streets_and_end n m streets) e in
     let (b, e₂) = or-zero scores (weights or_else streets_and_end n m streets) e₁ in
     let (w, e₃) = or-zero weights (streets_and_end n m streets) e₂ in
-    let (c, e₄) = or-zero (first_of n (street_record m streets)) (mark_refusal end_mark (past streets n) or_else end_fields (past streets n)) e₃ in
+    let (c, e₄) = or-zero (first_nonzero n (street_record m streets)) (mark_refusal end_mark (past streets n) or_else end_fields (past streets n)) e₃ in
     record {
       town = town-says file a;
       scores = scores-says m (scores_part file) b;

@@ -7,7 +7,7 @@ use Prim.Native.Nat.{ℕ, ◌+◌, ◌*◌, ◌≤◌, ◌<◌}
 use native.Mathlib.Omega.{arith}
 use lib.ListN.{length, length-append, drop}
 use lib.Seq.{take-append_seam, drop-append_seam, drop-append-add, ext_get_or}
-use Rattle.counting.specs.Words.{◌or_else◌, first_of}
+use Rattle.counting.specs.Words.{◌or_else◌, first_nonzero}
 use Rattle.counting.specs.Lists.{at}
 use Rattle.counting.specs.Buffers.{joined}
 use Rattle.counting.proofs.Sums.{list_of-length, list_of-at}
@@ -97,7 +97,7 @@ module _ (number : ℕ) (list z : List ℕ) where
       (both _ _ (as-due 14 _ number (omega arith))
       (both _ _ (not-above 15 (length list) m short)
       (both _ _ (short-right record-list (5 + length list) (omega arith))
-      (ap (λ (x : List ℕ). first_of (length x) (byte_field m x)) list_back ∙ list_right m list sound)))))
+      (ap (λ (x : List ℕ). first_nonzero (length x) (byte_field m x)) list_back ∙ list_right m list sound)))))
 
 -- EN is accepted where nothing follows
 pub end-right : mark_refusal end_mark (word end_mark) or_else end_fields (word end_mark) ≡ 0

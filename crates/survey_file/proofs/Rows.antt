@@ -13,7 +13,7 @@ use lib.Dec.{ltb, eqb, lit<}
 use lib.ListN.{length, take, replicate, length-append, length-replicate, get_or-replicate, get_or-append}
 use lib.Seq.{ext_get_or, length-take-le, take-append-le, get_or-take, get_or-append-add}
 use borrow.Author.Tests.{eqb-true, eq-eqb, ne_eqb}
-use Rattle.counting.specs.Words.{◌when◌, ◌or_else◌, first_of, outside}
+use Rattle.counting.specs.Words.{◌when◌, ◌or_else◌, first_nonzero, outside}
 use Rattle.counting.specs.Lists.{at, has}
 use Rattle.counting.proofs.Refusals.{or-zero, when-zero, when-none, within, unless-none, unless-is, first-none, first-zeros}
 use Rattle.counting.proofs.Membership.{cond-at, has-none}
@@ -83,7 +83,7 @@ pub record SoundList (m : ℕ) (list : List ℕ) : Type 0 where
 
 module _ (m : ℕ) (list : List ℕ) where
   -- what a list that is not refused shows
-  pub list-says : first_of (length list) (byte_field m list) ≡ 0 → SoundList m list
+  pub list-says : first_nonzero (length list) (byte_field m list) ≡ 0 → SoundList m list
   list-says e =
       record {
         named = λ j l. within 10 (at list j) 1 m (lit< tt) (here j l).0;
@@ -94,7 +94,7 @@ module _ (m : ℕ) (list : List ℕ) where
       here j l = or-zero (10 when outside (at list j) 1 m) (11 when has (at list j) (take j list)) (first-none (length list) (byte_field m list) e j l)
 
   -- and the other way round
-  pub list_right : SoundList m list → first_of (length list) (byte_field m list) ≡ 0
+  pub list_right : SoundList m list → first_nonzero (length list) (byte_field m list) ≡ 0
   list_right sound =
       first-zeros (length list) (byte_field m list) (λ j l.
       both _ _ (in-range 10 (at list j) 1 m (sound.named j l).0 (sound.named j l).1)

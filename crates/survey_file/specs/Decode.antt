@@ -2,7 +2,7 @@
 -- fixed indices: the mark at 0, the first field at 2.
 -- Assumes nothing.
 use Rattle.std.specs.Prelude.{ℕ, zero, suc, ◌+◌, ◌-◌, ◌*◌, ◌≡◌, Bool, true, false, List, ◌++◌, ltb, eqb, length, take, drop, replicate}
-use Rattle.counting.specs.Words.{◌when◌, ◌unless◌, ◌or_else◌, first_of, outside}
+use Rattle.counting.specs.Words.{◌when◌, ◌unless◌, ◌or_else◌, first_nonzero, outside}
 use Rattle.counting.specs.Lists.{at, has}
 use Rattle.counting.specs.Buffers.{joined, list_of}
 use Rattle.survey.specs.Town.{Town, town_of}
@@ -72,7 +72,7 @@ street_fields m number rest =
     14 unless eqb (word_at rest 2) number or_else
     15 when ltb m (at rest 4) or_else
     short_refusal rest (5 + at rest 4) or_else
-    first_of (length (list_in rest)) (byte_field m (list_in rest))
+    first_nonzero (length (list_in rest)) (byte_field m (list_in rest))
 
 -- EN: nothing follows
 abbrev pub end_fields : List ℕ → ℕ
@@ -92,7 +92,7 @@ street_record m streets i =
 -- the street records, and the end behind them
 abbrev pub streets_and_end : ℕ → ℕ → List ℕ → ℕ
 streets_and_end n m streets =
-    first_of n (street_record m streets) or_else
+    first_nonzero n (street_record m streets) or_else
     mark_refusal end_mark (past streets n) or_else
     end_fields (past streets n)
 

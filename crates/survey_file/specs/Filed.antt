@@ -1,7 +1,7 @@
 -- What a survey file holds, and the two forms it may have: the old one, and the new one, which gives the weights.
 -- Assumes nothing.
 use Rattle.std.specs.Prelude.{ℕ, Bool, true, false, List, eqb, length}
-use Rattle.counting.specs.Words.{◌unless◌, first_of}
+use Rattle.counting.specs.Words.{◌unless◌, first_nonzero}
 use Rattle.counting.specs.Lists.{at}
 use Rattle.survey.specs.Town.{Town}
 
@@ -25,7 +25,7 @@ lost_refusal weight = 25 unless eqb weight 1
 
 -- the weights, by street
 abbrev pub losses_refusal : List ℕ → ℕ
-losses_refusal weights = first_of (length weights) (λ i. lost_refusal (at weights i))
+losses_refusal weights = first_nonzero (length weights) (λ i. lost_refusal (at weights i))
 
 -- where a file of a form is to be made: the new form keeps every weight
 abbrev pub form_refusal : Bool → List ℕ → ℕ

@@ -7,7 +7,7 @@ use Prim.Native.Nat.{ℕ, zero, suc}
 use native.Mathlib.Nat.{suc-ne-zero}
 use lib.Dec.{eqb}
 use borrow.Author.Tests.{eqb-true, leb-true}
-use Rattle.counting.specs.Words.{◌when◌, ◌unless◌, ◌or_else◌, first_of}
+use Rattle.counting.specs.Words.{◌when◌, ◌unless◌, ◌or_else◌, first_nonzero}
 use Rattle.counting.specs.Lists.{count}
 use Rattle.counting.specs.Greatest.{seek, greatest}
 use Rattle.counting.specs.Buffers.{joined, laid, after}
@@ -26,7 +26,7 @@ use Rattle.worked_towns.specs.Table.{table}
 
 -- the one fact about all lines, as the checker computes it
 all_pass : test_lines table ≡ true
-unfolding ◌when◌ ◌unless◌ ◌or_else◌ first_of count seek greatest joined laid share less division_total divide ordered rounds encode past file_refusal
+unfolding ◌when◌ ◌unless◌ ◌or_else◌ first_nonzero count seek greatest joined laid share less division_total divide ordered rounds encode past file_refusal
 all_pass = refl
 
 -- ---- a fact that passes its test holds

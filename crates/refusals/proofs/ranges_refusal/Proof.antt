@@ -2,7 +2,7 @@
 use mathlib.Core.Path.{◌≡◌}
 use Prim.Native.Nat.{◌≤◌, ◌-◌}
 use lib.ListN.{length}
-use Rattle.counting.specs.Words.{first_of}
+use Rattle.counting.specs.Words.{first_nonzero}
 use Rattle.counting.specs.Lists.{at}
 use Rattle.counting.proofs.Refusals.{loop}
 use Rattle.refusals.specs.Refusals.{range_refusal}
@@ -10,7 +10,7 @@ use Rattle.refusals.proofs.ranges_refusal.Statement.{statement}
 use Rattle.refusals.proofs.ranges_refusal.Tie as tie
 
 abbrev invariant-loop : tie.invariant-loop
-invariant-loop low m sites j₀ j-end j = (j ≤ j-end) × (j-end ≡ length sites) × (first_of j (λ i. range_refusal low m (at sites i)) ≡ 0)
+invariant-loop low m sites j₀ j-end j = (j ≤ j-end) × (j-end ≡ length sites) × (first_nonzero j (λ i. range_refusal low m (at sites i)) ≡ 0)
 
 abbrev decreases-loop : tie.decreases-loop
 decreases-loop low m sites j₀ j-end j = j-end - j

@@ -5,7 +5,7 @@ use Prim.Native.Nat.{◌≤◌, ◌<◌, ◌-◌}
 use native.Mathlib.Omega.{arith}
 use lib.ListN.{length, take}
 use Rattle.counting.specs.Lists.{at, has}
-use Rattle.counting.specs.Words.{◌when◌, first_of}
+use Rattle.counting.specs.Words.{◌when◌, first_nonzero}
 use Rattle.counting.specs.Flags.{Flags}
 use Rattle.counting.proofs.Flagging.{flags-none}
 use Rattle.counting.proofs.Refusals.{loop, first-start, first_found, first_next}
@@ -14,7 +14,7 @@ use Rattle.refusals.proofs.twice_refusal.Statement.{statement}
 use Rattle.refusals.proofs.twice_refusal.Tie as tie
 
 abbrev invariant-loop : tie.invariant-loop
-invariant-loop sites seen₀ j₀ j-end seen j = (j ≤ j-end) × (j-end ≡ length sites) × (first_of j (λ i. 20 when has (at sites i) (take i sites)) ≡ 0) × Flags seen (take j sites)
+invariant-loop sites seen₀ j₀ j-end seen j = (j ≤ j-end) × (j-end ≡ length sites) × (first_nonzero j (λ i. 20 when has (at sites i) (take i sites)) ≡ 0) × Flags seen (take j sites)
 
 abbrev decreases-loop : tie.decreases-loop
 decreases-loop sites seen₀ j₀ j-end seen j = j-end - j

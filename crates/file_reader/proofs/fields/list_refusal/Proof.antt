@@ -5,7 +5,7 @@ use Prim.Native.Nat.{◌≤◌, ◌<◌, ◌-◌}
 use native.Mathlib.Omega.{arith}
 use lib.ListN.{length, take}
 use Rattle.counting.specs.Lists.{at}
-use Rattle.counting.specs.Words.{first_of}
+use Rattle.counting.specs.Words.{first_nonzero}
 use Rattle.counting.specs.Flags.{Flags}
 use Rattle.counting.proofs.Flagging.{flags-none}
 use Rattle.counting.proofs.Refusals.{loop, first-start, first_found, first_next}
@@ -16,7 +16,7 @@ use Rattle.file_reader.proofs.fields.list_refusal.Statement.{statement}
 use Rattle.file_reader.proofs.fields.list_refusal.Tie as tie
 
 abbrev invariant-loop : tie.invariant-loop
-invariant-loop m list seen₀ j₀ j-end seen j = (j ≤ j-end) × (j-end ≡ length list) × (first_of j (byte_field m list) ≡ 0) × Flags seen (take j list)
+invariant-loop m list seen₀ j₀ j-end seen j = (j ≤ j-end) × (j-end ≡ length list) × (first_nonzero j (byte_field m list) ≡ 0) × Flags seen (take j list)
 
 abbrev decreases-loop : tie.decreases-loop
 decreases-loop m list seen₀ j₀ j-end seen j = j-end - j

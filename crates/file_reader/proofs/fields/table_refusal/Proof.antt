@@ -3,13 +3,13 @@ use borrow.Author.Rules.{rules}
 use Rattle.counting.proofs.Refusals.{loop}
 use mathlib.Core.Path.{◌≡◌}
 use Prim.Native.Nat.{◌≤◌, ◌-◌}
-use Rattle.counting.specs.Words.{first_of}
+use Rattle.counting.specs.Words.{first_nonzero}
 use Rattle.file_reader.specs.Fields.{score_field}
 use Rattle.file_reader.proofs.fields.table_refusal.Statement.{statement}
 use Rattle.file_reader.proofs.fields.table_refusal.Tie as tie
 
 abbrev invariant-loop : tie.invariant-loop
-invariant-loop rest m i₀ i = (i ≤ m) × (first_of i (score_field rest) ≡ 0)
+invariant-loop rest m i₀ i = (i ≤ m) × (first_nonzero i (score_field rest) ≡ 0)
 
 abbrev decreases-loop : tie.decreases-loop
 decreases-loop rest m i₀ i = m - i

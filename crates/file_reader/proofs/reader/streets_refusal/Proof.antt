@@ -5,7 +5,7 @@ use mathlib.Core.List.{List}
 use Prim.Native.Nat.{ℕ, ◌+◌, ◌-◌, ◌≤◌}
 use native.Mathlib.Omega.{arith}
 use lib.ListN.{length, drop}
-use Rattle.counting.specs.Words.{first_of}
+use Rattle.counting.specs.Words.{first_nonzero}
 use Rattle.counting.specs.Lists.{at}
 use Rattle.counting.proofs.Refusals.{first-start}
 use Rattle.survey_file.specs.Decode.{past, street_record}
@@ -17,7 +17,7 @@ use Rattle.file_reader.proofs.reader.streets_refusal.Statement.{statement}
 use Rattle.file_reader.proofs.reader.streets_refusal.Tie as tie
 
 abbrev invariant-loop : tie.invariant-loop
-invariant-loop file from n m at₀ i₀ at i = (i ≤ n) × (at ≤ length file) × (drop at file ≡ past (drop from file) i) × (first_of i (street_record m (drop from file)) ≡ 0)
+invariant-loop file from n m at₀ i₀ at i = (i ≤ n) × (at ≤ length file) × (drop at file ≡ past (drop from file) i) × (first_nonzero i (street_record m (drop from file)) ≡ 0)
 
 abbrev decreases-loop : tie.decreases-loop
 decreases-loop file from n m at₀ i₀ at i = n - i
