@@ -11,30 +11,33 @@ import sys
 
 ROOT = sys.argv[1] if len(sys.argv) > 1 else os.path.join(os.path.dirname(os.path.realpath(__file__)), "..")
 STRING = re.compile(r'("(?:[^"\\\n]|\\.)*")')
-# old name → new name, everywhere
+# old name → new name, and where: a part of the paths it is renamed in, or patterns (OLD stands for the old name); None is everywhere. In this order.
 NAMES = [
-]
-# old name → new name, only where one of the patterns meets it: the name stands for something else elsewhere. OLD in a pattern is the old name.
-PLACES = [
     # the lemma of proofs/Places.antt; `place_at` is the term that `place_in` is made of
     ("place_at", "place_in-at", [
         r"(?m)^pub OLD(?= : \(L : List ℕ\))",
         r"(?<=Rattle\.survey\.proofs\.Places\.\{)[^}]*?OLD(?=[,}])",
         r"OLD(?= L a [ph]\b)",
     ]),
+    # `first_of (.., ..)` is a tactic, and is left alone
+    ("first_of", "first-agree", "/division/proofs/Ties.antt"),
+    ("first_of", "first_nonzero", None),
 ]
+# a call of the tactic of that name
+TACTIC = r"(?!\s*\(\s*(?:search|grind|omega|cc|simp|hlevel|assumption|first_of)\b)"
 
 
 def word(name):
-    return r"(?<![\w'₀-₉-])" + re.escape(name) + r"(?![\w'₀-₉-])"
+    return r"(?<![\w'₀-₉-])" + re.escape(name) + r"(?![\w'₀-₉-])" + TACTIC
 
 
-def renamed(text):
-    for old, new in NAMES:
-        text = re.sub(word(old), new, text)
-    for old, new, patterns in PLACES:
-        for p in patterns:
-            text = re.sub(p.replace("OLD", word(old)), lambda m: re.sub(word(old), new, m.group()), text)
+def renamed(text, path):
+    for old, new, where in NAMES:
+        if where is None or isinstance(where, str) and where in path:
+            text = re.sub(word(old), new, text)
+        elif not isinstance(where, str):
+            for p in where:
+                text = re.sub(p.replace("OLD", word(old)), lambda m: re.sub(word(old), new, m.group()), text)
     return text
 
 
@@ -48,7 +51,7 @@ def main():
             with open(p, encoding="utf-8") as f:
                 text = f.read()
             parts = STRING.split(text) if n.endswith(".rt") else [text]
-            new = "".join(s if i % 2 else renamed(s) for i, s in enumerate(parts))
+            new = "".join(s if i % 2 else renamed(s, p) for i, s in enumerate(parts))
             if new != text:
                 with open(p, "w", encoding="utf-8") as f:
                     f.write(new)

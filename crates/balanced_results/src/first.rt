@@ -1,7 +1,6 @@
 // A first division for the engine to improve, in the rounds' shares: that of the rounds, which choose the sites, or one over a list of sites.
 ghost use Rattle.std.specs.Prelude.{◌≡◌, ℕ, ◌+◌, ◌≤◌, ◌<◌, length};
 ghost use Rattle.counting.specs.Lists.{at};
-ghost use Rattle.survey.specs.Town.{was, is};
 ghost use Rattle.tables.specs.Tables.{StreetTable, value_in};
 ghost use Rattle.balanced_rounds.specs.Lines.{WellFormed, state_of};
 ghost use Rattle.balanced_results.specs.Shareable.{Shareable};
@@ -15,7 +14,7 @@ fn play(values: &[u32], rows: &[u8], even: bool, n: usize, m: usize, k: usize) -
     requires ranked_table { RankedTable even values.now n m rows.now }
     requires k_nonzero { (0 < k) × (k ≤ m) }
     ensures held { WellFormed result × (result.count ≡ k) }
-    ensures state { state_of n result ≡ rounds_by (value_in (was values) m) n m k (was rows) }
+    ensures state { state_of n result ≡ rounds_by (value_in values.now m) n m k rows.now }
 {
     let size = (m + 1) * n;
     let mut keys = [0u32; counting::ENTRIES];
@@ -38,8 +37,8 @@ fn by_rounds(
     requires ranked_table { RankedTable even values.now (length division.old) m rows.now }
     requires sites_nonzero { (0 < length sites.old) × (length sites.old ≤ m) }
     requires shares_len { (length shares.old ≡ m + 1) × ((a : ℕ) → at shares.old a ≡ 0) }
-    ensures begun { Begun (length (was division)) m (is sites) (is shares) (is division) }
-    ensures sites { is sites ≡ (rounds_by (value_in (was values) m) (length (was division)) m (length (was sites)) (was rows)).chosen }
+    ensures begun { Begun (length division.old) m sites.new shares.new division.new }
+    ensures sites { sites.new ≡ (rounds_by (value_in values.now m) (length division.old) m (length sites.old) rows.now).chosen }
 {
     let n = division.len();
     let k = sites.len();
@@ -55,7 +54,7 @@ fn by_rounds(
 fn over_list(values: &[u32], m: usize, sites: &[u8], division: &mut [u8], shares: &mut [u16])
     requires street_table { StreetTable (length division.old) m values.now × Shareable m sites.now }
     requires shares_len { (length shares.old ≡ m + 1) × ((a : ℕ) → at shares.old a ≡ 0) }
-    ensures { Begun (length (was division)) m (was sites) (is shares) (is division) }
+    ensures { Begun (length division.old) m sites.now shares.new division.new }
 {
     let w = m + 1;
     let mut left = [0u16; counting::WIDTH];
@@ -77,9 +76,9 @@ pub fn divide(
     requires ranked_table { RankedTable even values.now (length division.old) m rows.now }
     requires listed { Listed planned m sites.old }
     requires shares_len { (length shares.old ≡ m + 1) × ((a : ℕ) → at shares.old a ≡ 0) }
-    ensures begun { Begun (length (was division)) m (is sites) (is shares) (is division) }
-    ensures sites { is sites ≡ sites_of planned
-        (rounds_by (value_in (was values) m) (length (was division)) m (length (was sites)) (was rows)).chosen (was sites) }
+    ensures begun { Begun (length division.old) m sites.new shares.new division.new }
+    ensures sites { sites.new ≡ sites_of planned
+        (rounds_by (value_in values.now m) (length division.old) m (length sites.old) rows.now).chosen sites.old }
 {
     if planned {
         by_rounds(values, rows, even, m, sites, division, shares);

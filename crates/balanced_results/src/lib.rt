@@ -4,7 +4,7 @@
 
 ghost use Rattle.std.specs.Prelude.{◌≡◌, ℕ, ◌+◌, ◌≤◌, ◌<◌, length};
 ghost use Rattle.counting.specs.Lists.{at};
-ghost use Rattle.survey.specs.Town.{town_of, town, was, is};
+ghost use Rattle.survey.specs.Town.{town_of};
 ghost use Rattle.survey.specs.Accepted.{Accepted};
 ghost use Rattle.tables.specs.Tables.{value_in};
 ghost use Rattle.division.specs.Shares.{division_total};
@@ -29,10 +29,10 @@ fn divide_table(
     requires ranked_table { RankedTable even values.now (length division.old) m rows.now }
     requires listed { Listed planned m sites.old }
     requires shares_len { (length shares.old ≡ m + 1) × ((a : ℕ) → at shares.old a ≡ 0) }
-    ensures total { result ≡ division_total (value_in (was values) m) (divided_by (value_in (was values) m) (length (was division)) m (is sites)) }
-    ensures division { is division ≡ divided_by (value_in (was values) m) (length (was division)) m (is sites) }
-    ensures sites { is sites ≡ sites_of planned
-        (rounds_by (value_in (was values) m) (length (was division)) m (length (was sites)) (was rows)).chosen (was sites) }
+    ensures total { result ≡ division_total (value_in values.now m) (divided_by (value_in values.now m) (length division.old) m sites.new) }
+    ensures division { division.new ≡ divided_by (value_in values.now m) (length division.old) m sites.new }
+    ensures sites { sites.new ≡ sites_of planned
+        (rounds_by (value_in values.now m) (length division.old) m (length sites.old) rows.now).chosen sites.old }
 {
     first::divide(values, rows, even, m, planned, sites, division, shares);
     compact::best(values, shares, division)
@@ -52,9 +52,9 @@ fn best(
 ) -> u32
     requires accepted { Accepted (town_of n m scores.now weights.now rows.now) × Listed planned m sites.old }
     requires division_len { length division.old ≡ n }
-    ensures total { result ≡ plan_total (town n m scores weights rows) (balanced_division (town n m scores weights rows) (is sites)) }
-    ensures division { is division ≡ balanced_division (town n m scores weights rows) (is sites) }
-    ensures sites { is sites ≡ sites_of planned (balanced_sites (town n m scores weights rows) (length (was sites))) (was sites) }
+    ensures total { result ≡ plan_total (town_of n m scores.now weights.now rows.now) (balanced_division (town_of n m scores.now weights.now rows.now) sites.new) }
+    ensures division { division.new ≡ balanced_division (town_of n m scores.now weights.now rows.now) sites.new }
+    ensures sites { sites.new ≡ sites_of planned (balanced_sites (town_of n m scores.now weights.now rows.now) (length sites.old)) sites.old }
 {
     let w = m + 1;
     let size = n * w;
@@ -86,8 +86,8 @@ pub fn divide(
 ) -> u32
     requires accepted { Accepted (town_of n m scores.now weights.now rows.now) × Shareable m sites.now }
     requires division_len { length division.old ≡ n }
-    ensures total { result ≡ plan_total (town n m scores weights rows) (balanced_division (town n m scores weights rows) (was sites)) }
-    ensures division { is division ≡ balanced_division (town n m scores weights rows) (was sites) }
+    ensures total { result ≡ plan_total (town_of n m scores.now weights.now rows.now) (balanced_division (town_of n m scores.now weights.now rows.now) sites.now) }
+    ensures division { division.new ≡ balanced_division (town_of n m scores.now weights.now rows.now) sites.now }
 {
     let k = sites.len();
     let mut list = [0u8; counting::SITES];
@@ -107,9 +107,9 @@ pub fn plan(
 ) -> u32
     requires accepted { Accepted (town_of n m scores.now weights.now rows.now) × (0 < length chosen.old) × (length chosen.old ≤ m) }
     requires division_len { length division.old ≡ n }
-    ensures total { result ≡ balanced_total (town n m scores weights rows) (length (was chosen)) }
-    ensures division { is division ≡ balanced_division (town n m scores weights rows) (balanced_sites (town n m scores weights rows) (length (was chosen))) }
-    ensures chosen { is chosen ≡ balanced_sites (town n m scores weights rows) (length (was chosen)) }
+    ensures total { result ≡ balanced_total (town_of n m scores.now weights.now rows.now) (length chosen.old) }
+    ensures division { division.new ≡ balanced_division (town_of n m scores.now weights.now rows.now) (balanced_sites (town_of n m scores.now weights.now rows.now) (length chosen.old)) }
+    ensures chosen { chosen.new ≡ balanced_sites (town_of n m scores.now weights.now rows.now) (length chosen.old) }
 {
     best(n, m, scores, weights, rows, true, chosen, division)
 }

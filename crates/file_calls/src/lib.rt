@@ -1,7 +1,6 @@
 // The writer, the reader and the converter of survey files.
 #![tactic(auto)]
 
-ghost use Rattle.survey.specs.Town.{is};
 ghost use Rattle.refusals.specs.Inputs.{write_lent, read_lent, convert_lent};
 ghost use Rattle.file_calls.specs.Calls.{FileWritten, FileRead, FileConverted};
 
@@ -34,7 +33,7 @@ pub fn write_file(
     rows: &[u8],
     file: &mut [u8],
 ) -> Answer
-    ensures { FileWritten (write_lent n m k kind new_form scores weights rows file) (is file) result }
+    ensures { FileWritten (write_lent n m k kind new_form scores.now weights.now rows.now file.old) file.new result }
 {
     let x = file_refusals::write_refusal(n, m, k, kind, new_form, scores, weights, rows, file);
     if x != 0 {
@@ -49,7 +48,7 @@ pub fn write_file(
 // first n are, with 1 for each street of an old file, and one of 25,600 row bytes, of which the first n times m are. Refuses with 6, 12, 13, 1, 2, 3, 4,
 // 8, 24, 14, 15, 10, 11 or 16.
 pub fn read_file(file: &[u8], scores: &mut [u16], weights: &mut [u8], rows: &mut [u8]) -> Read
-    ensures { FileRead (read_lent file scores weights rows) (is scores) (is weights) (is rows) result }
+    ensures { FileRead (read_lent file.now scores.old weights.old rows.old) scores.new weights.new rows.new result }
 {
     let found = file_refusals::read_sizes(file, scores, weights, rows);
     let Checked::Sizes {
@@ -75,7 +74,7 @@ pub fn read_file(file: &[u8], scores: &mut [u16], weights: &mut [u8], rows: &mut
 // Puts a survey file into the form that is wanted, the new one or the old one, into a buffer of any length, and returns its length there; no byte behind
 // it changes. A file that has that form already comes out as it is. Refuses with 12, 13, 1, 2, 3, 4, 8, 24, 14, 15, 10, 11, 16, 25 or 7.
 pub fn convert_file(file: &[u8], wanted: bool, buffer: &mut [u8]) -> Answer
-    ensures { FileConverted (convert_lent file wanted buffer) (is buffer) result }
+    ensures { FileConverted (convert_lent file.now wanted buffer.old) buffer.new result }
 {
     let found = file_refusals::convert_sizes(file, wanted, buffer);
     let Checked::Sizes {

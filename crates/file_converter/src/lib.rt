@@ -4,7 +4,6 @@
 ghost use Rattle.std.specs.Prelude.{◌≡◌, ◌+◌, ◌-◌, ◌*◌, ◌≤◌, length};
 ghost use Rattle.counting.specs.Bounds.{most_sites};
 ghost use Rattle.counting.specs.Buffers.{laid};
-ghost use Rattle.survey.specs.Town.{was, is};
 ghost use Rattle.survey_file.specs.Filed.{form_refusal};
 ghost use Rattle.survey_file.specs.Decode.{town_in, FileTaken};
 ghost use Rattle.survey_file.specs.FileBuffers.{converted, file_converted};
@@ -19,7 +18,7 @@ use survey_file::weights_size;
 // 25: the weights of a file, where it is wanted in the old form. An old file has none that it could lose.
 pub fn lost_refusal(file: &[u8], n: usize, m: usize, new_form: bool, wanted: bool) -> u8
     requires { FileTaken file.now n m new_form }
-    ensures { result ≡ form_refusal wanted (town_in (was file)).weights }
+    ensures { result ≡ form_refusal wanted (town_in file.now).weights }
 {
     if !new_form {
         return 0;
@@ -32,7 +31,7 @@ pub fn lost_refusal(file: &[u8], n: usize, m: usize, new_form: bool, wanted: boo
 // The length of the file in the form that is wanted.
 pub fn converted_length(file: &[u8], n: usize, m: usize, new_form: bool, wanted: bool) -> usize
     requires { FileTaken file.now n m new_form }
-    ensures { result ≡ length (converted wanted (was file)) }
+    ensures { result ≡ length (converted wanted file.now) }
 {
     file.len() - weights_size(n, new_form) + weights_size(n, wanted)
 }
@@ -42,7 +41,7 @@ pub fn converted_length(file: &[u8], n: usize, m: usize, new_form: bool, wanted:
 fn put_together(file: &[u8], m: usize, streets: usize, weights: &[u8], wanted: bool, out: &mut [u8])
     requires m_le_most_sites { (m ≤ most_sites) × (9 + 2 * m ≤ length file.now) × (streets ≤ length file.now) }
     requires streets_in_bounds { length (pieced wanted file.now m weights.now streets) ≤ length out.old }
-    ensures { is out ≡ laid (was out) 0 (pieced wanted (was file) m (was weights) streets) }
+    ensures { out.new ≡ laid out.old 0 (pieced wanted file.now m weights.now streets) }
 {
     let behind_mark = write_word(town_mark(wanted), out, 0);
     let end = 9 + 2 * m;
@@ -55,7 +54,7 @@ fn put_together(file: &[u8], m: usize, streets: usize, weights: &[u8], wanted: b
 pub fn convert(file: &[u8], n: usize, m: usize, new_form: bool, wanted: bool, out: &mut [u8])
     requires file_taken { FileTaken file.now n m new_form }
     requires file_in_bounds { length (converted wanted file.now) ≤ length out.old }
-    ensures { is out ≡ file_converted wanted (was file) (was out) }
+    ensures { out.new ≡ file_converted wanted file.now out.old }
 {
     let streets = 9 + 2 * m + weights_size(n, new_form);
     if new_form {

@@ -5,7 +5,6 @@ ghost use Rattle.std.specs.Prelude.{true, cond, ◌≡◌, ◌+◌, ◌*◌, ◌
 ghost use Rattle.counting.specs.Bounds.{most_streets, most_sites, most_rows};
 ghost use Rattle.counting.specs.Lists.{at};
 ghost use Rattle.counting.specs.Buffers.{Mapped};
-ghost use Rattle.survey.specs.Town.{was, is};
 ghost use Rattle.survey_file.specs.Decode.{word_at, list_in, rows_in, FileTaken};
 ghost use Rattle.survey_file.specs.FileBuffers.{rows_read, scores_read, weights_read};
 
@@ -93,9 +92,9 @@ pub fn fill(
 )
     requires file_taken { FileTaken file.now n m new_form }
     requires rows_len { (length rows.old ≡ most_rows) × (length scores.old ≡ most_sites) × (length weights.old ≡ most_streets) }
-    ensures rows { is rows ≡ rows_read (was file) (was rows) }
-    ensures scores { is scores ≡ scores_read (was file) (was scores) }
-    ensures weights { is weights ≡ weights_read (was file) (was weights) }
+    ensures rows { rows.new ≡ rows_read file.now rows.old }
+    ensures scores { scores.new ≡ scores_read file.now scores.old }
+    ensures weights { weights.new ≡ weights_read file.now weights.old }
 {
     fill_scores(file, m, scores);
     fill_weights(file, 11 + 2 * m, n, new_form, weights);

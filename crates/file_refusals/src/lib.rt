@@ -3,7 +3,6 @@
 
 ghost use Rattle.std.specs.Prelude.{◌≡◌, ltb, length};
 ghost use Rattle.counting.specs.Words.{◌when◌, ◌or_else◌};
-ghost use Rattle.survey.specs.Town.{was};
 ghost use Rattle.survey_file.specs.Filed.{form_refusal};
 ghost use Rattle.survey_file.specs.Decode.{town_in, FileTaken};
 ghost use Rattle.survey_file.specs.FileBuffers.{converted};
@@ -37,7 +36,7 @@ pub fn write_refusal(
     rows: &[u8],
     file: &[u8],
 ) -> u8
-    ensures { Tried write_refusal (write_lent n m k kind new_form scores weights rows file) result }
+    ensures { Tried write_refusal (write_lent n m k kind new_form scores.now weights.now rows.now file.now) result }
 {
     let own = refusals::kind_refusal(kind);
     let r = check::survey_refusal(n, m, k, own, scores, weights, rows);
@@ -53,7 +52,7 @@ pub fn write_refusal(
 
 // Reading a file into its three buffers: what its town's record gives, or the number of the first refusal.
 pub fn read_sizes(file: &[u8], scores: &[u16], weights: &[u8], rows: &[u8]) -> Checked
-    ensures { SizesTried read_refusal (read_lent file scores weights rows) (was file) result }
+    ensures { SizesTried read_refusal (read_lent file.now scores.now weights.now rows.now) file.now result }
 {
     if rows.len() != Survey::ROWS {
         return Checked::Refused(6);
@@ -70,7 +69,7 @@ pub fn read_sizes(file: &[u8], scores: &[u16], weights: &[u8], rows: &[u8]) -> C
 // What a checked file is refused for besides, where it is wanted in a form: 25, then 7.
 fn made_refusal(file: &[u8], n: usize, m: usize, new_form: bool, wanted: bool, room: usize) -> u8
     requires { FileTaken file.now n m new_form }
-    ensures { result ≡ form_refusal wanted (town_in (was file)).weights or_else 7 when ltb room (length (converted wanted (was file))) }
+    ensures { result ≡ form_refusal wanted (town_in file.now).weights or_else 7 when ltb room (length (converted wanted file.now)) }
 {
     let lost = file_converter::lost_refusal(file, n, m, new_form, wanted);
     if lost != 0 {
@@ -82,7 +81,7 @@ fn made_refusal(file: &[u8], n: usize, m: usize, new_form: bool, wanted: bool, r
 
 // Converting a file: what its town's record gives, or the number of the first refusal.
 pub fn convert_sizes(file: &[u8], wanted: bool, buffer: &[u8]) -> Checked
-    ensures { SizesTried convert_refusal (convert_lent file wanted buffer) (was file) result }
+    ensures { SizesTried convert_refusal (convert_lent file.now wanted buffer.now) file.now result }
 {
     let found = file_reader::check(file);
     let Checked::Sizes {

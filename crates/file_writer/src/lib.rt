@@ -3,7 +3,7 @@
 
 ghost use Rattle.std.specs.Prelude.{◌≡◌, List, ℕ, ◌*◌, ◌≤◌, length};
 ghost use Rattle.counting.specs.Bounds.{most_streets, most_sites};
-ghost use Rattle.survey.specs.Town.{town_of, was, is, town};
+ghost use Rattle.survey.specs.Town.{town_of};
 ghost use Rattle.survey.specs.Accepted.{Accepted};
 ghost use Rattle.survey_file.specs.Filed.{filed_of, lost_refusal, losses_refusal, form_refusal};
 ghost use Rattle.survey_file.specs.Encode.{encode};
@@ -18,7 +18,7 @@ pub mod records;
 pub fn file_length(n: usize, m: usize, new_form: bool, rows: &[u8]) -> usize
     requires { (n ≤ most_streets) × (m ≤ most_sites) × (length rows.now ≡ n * m) }
     ensures { (k kind : ℕ) (scores weights : List ℕ) → length weights ≡ n →
-        result ≡ length (encode (filed_of new_form (town_of n m scores weights (was rows)) k kind)) }
+        result ≡ length (encode (filed_of new_form (town_of n m scores weights rows.now) k kind)) }
 {
     let mut size = 11 + 2 * m + weights_size(n, new_form);
     for s in 0..n {
@@ -52,7 +52,7 @@ fn losses_refusal(weights: &[u8]) -> u8
 
 // The same where a file of a form is to be made: the new form keeps every weight.
 pub fn form_refusal(new_form: bool, weights: &[u8]) -> u8
-    ensures { result ≡ form_refusal new_form (was weights) }
+    ensures { result ≡ form_refusal new_form weights.now }
 {
     if new_form {
         return 0;
@@ -75,7 +75,7 @@ pub fn write(
     requires accepted { Accepted (town_of n m scores.now weights.now rows.now) }
     requires k_le_m { (k ≤ m) × (kind ≤ 1) }
     requires kind_in_bounds { length (encode (filed_of new_form (town_of n m scores.now weights.now rows.now) k kind)) ≤ length file.old }
-    ensures { is file ≡ file_written (filed_of new_form (town n m scores weights rows) k kind) (was file) }
+    ensures { file.new ≡ file_written (filed_of new_form (town_of n m scores.now weights.now rows.now) k kind) file.old }
 {
     let behind_town = records::write_town(new_form, n, m, k, kind, file, 0);
     let behind_scores = records::write_scores(m, scores, file, behind_town);

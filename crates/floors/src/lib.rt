@@ -3,7 +3,7 @@
 
 ghost use Rattle.std.specs.Prelude.{true, ◌≡◌, ◌+◌, ◌*◌, ◌≤◌, ◌<◌, min, length};
 ghost use Rattle.counting.specs.Bounds.{most_streets, most_sites, most_total};
-ghost use Rattle.survey.specs.Town.{town_of, town};
+ghost use Rattle.survey.specs.Town.{town_of};
 ghost use Rattle.survey.specs.Rows.{row_at, ranked_part, score_at, shortest_of};
 ghost use Rattle.survey.specs.Accepted.{SoundScores, Accepted};
 ghost use Rattle.shares.specs.Rounds.{round_share};
@@ -93,7 +93,7 @@ fn plain_floor(n: usize, m: usize, k: usize, scores: &[u16], rows: &[u8]) -> u32
 // The floor of k rounds: that by plain scores, times the smallest weight.
 pub fn floor(n: usize, m: usize, k: usize, scores: &[u16], weights: &[u8], rows: &[u8]) -> u32
     requires { Accepted (town_of n m scores.now weights.now rows.now) × (1 ≤ k) × (k ≤ m) }
-    ensures { result ≡ plan_floor (town n m scores weights rows) k }
+    ensures { result ≡ plan_floor (town_of n m scores.now weights.now rows.now) k }
 {
     let least = survey::weights::least(weights);
     least as u32 * plain_floor(n, m, k, scores, rows)

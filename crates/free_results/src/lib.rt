@@ -5,7 +5,7 @@ ghost use Rattle.std.specs.Prelude.{◌≡◌, false, ℕ, ◌+◌, ◌*◌, ◌
 ghost use Rattle.counting.specs.Bounds.{most_streets};
 ghost use Rattle.counting.specs.Words.{sum_of};
 ghost use Rattle.counting.specs.Lists.{at};
-ghost use Rattle.survey.specs.Town.{town_of, town, was, is};
+ghost use Rattle.survey.specs.Town.{town_of};
 ghost use Rattle.survey.specs.Rows.{score, value};
 ghost use Rattle.survey.specs.Accepted.{Accepted};
 ghost use Rattle.free_plan.specs.Greedy.{greedy};
@@ -28,8 +28,8 @@ fn planned(
 ) -> State
     requires accepted { Accepted (town_of n m scores.now weights.now rows.now) }
     requires k_len_bound { (length sites.now + k ≤ m) × ((i : ℕ) → at sites.now i ≤ m) }
-    ensures sites { (result.count ≡ length (was sites) + k) × (sites_of result ≡ greedy (value (town n m scores weights rows)) n m k (was sites)) }
-    ensures held { Held (score (town n m scores weights rows)) n result }
+    ensures sites { (result.count ≡ length sites.now + k) × (sites_of result ≡ greedy (value (town_of n m scores.now weights.now rows.now)) n m k sites.now) }
+    ensures held { Held (score (town_of n m scores.now weights.now rows.now)) n result }
 {
     let size = (m + 1) * n;
     let mut table = [0u16; counting::ENTRIES];
@@ -42,7 +42,7 @@ fn planned(
 fn total_of(state: State, weights: &[u8], n: usize) -> u32
     requires bests_len { (length state.bests ≡ most_streets) × (n ≤ most_streets) × Scores (take n state.bests) }
     requires weighed { Weighed n weights.now false }
-    ensures { result ≡ sum_of n (λ s. at (was weights) s * at (take n state.bests) s) }
+    ensures { result ≡ sum_of n (λ s. at weights.now s * at (take n state.bests) s) }
 {
     let bests = state.bests;
     free_rounds::sums::sum(&bests[..n], weights, false)
@@ -58,7 +58,7 @@ pub fn list_total(
     sites: &[u8],
 ) -> u32
     requires { Accepted (town_of n m scores.now weights.now rows.now) × (length sites.now ≤ m) × ((i : ℕ) → at sites.now i ≤ m) }
-    ensures { result ≡ list_total (town n m scores weights rows) (was sites) }
+    ensures { result ≡ list_total (town_of n m scores.now weights.now rows.now) sites.now }
 {
     total_of(planned(n, m, scores, weights, rows, sites, 0), weights, n)
 }
@@ -75,8 +75,8 @@ pub fn divide(
 ) -> u32
     requires accepted { Accepted (town_of n m scores.now weights.now rows.now) × (length sites.now ≤ m) × ((i : ℕ) → at sites.now i ≤ m) }
     requires division_len { length division.old ≡ n }
-    ensures total { result ≡ list_total (town n m scores weights rows) (was sites) }
-    ensures division { is division ≡ free_division (town n m scores weights rows) (was sites) }
+    ensures total { result ≡ list_total (town_of n m scores.now weights.now rows.now) sites.now }
+    ensures division { division.new ≡ free_division (town_of n m scores.now weights.now rows.now) sites.now }
 {
     let state = planned(n, m, scores, weights, rows, sites, 0);
     let flags = state.flags;
@@ -96,9 +96,9 @@ pub fn plan(
 ) -> u32
     requires accepted { Accepted (town_of n m scores.now weights.now rows.now) × (length chosen.old ≤ m) }
     requires division_len { length division.old ≡ n }
-    ensures total { result ≡ list_total (town n m scores weights rows) (free_sites (town n m scores weights rows) (length (was chosen))) }
-    ensures division { is division ≡ free_division (town n m scores weights rows) (free_sites (town n m scores weights rows) (length (was chosen))) }
-    ensures chosen { is chosen ≡ free_sites (town n m scores weights rows) (length (was chosen)) }
+    ensures total { result ≡ list_total (town_of n m scores.now weights.now rows.now) (free_sites (town_of n m scores.now weights.now rows.now) (length chosen.old)) }
+    ensures division { division.new ≡ free_division (town_of n m scores.now weights.now rows.now) (free_sites (town_of n m scores.now weights.now rows.now) (length chosen.old)) }
+    ensures chosen { chosen.new ≡ free_sites (town_of n m scores.now weights.now rows.now) (length chosen.old) }
 {
     let k = chosen.len();
     let none = [0u8; 1];

@@ -1,7 +1,6 @@
 // Where the streets go, once the sites are chosen.
 ghost use Rattle.std.specs.Prelude.{◌≡◌, false, ◌+◌, ◌*◌, ◌≤◌, length, get_or};
 ghost use Rattle.counting.specs.Buffers.{list_of};
-ghost use Rattle.survey.specs.Town.{was};
 ghost use Rattle.survey.specs.Rows.{row_at, ranked_part};
 ghost use Rattle.free_plan.specs.Greedy.{goes_to};
 
@@ -26,7 +25,7 @@ fn first_flagged(row: &[u8], flags: &[bool]) -> u8
 // Where the street s goes.
 fn street(rows: &[u8], m: usize, s: usize, flags: &[bool]) -> u8
     requires { (s * m + m ≤ length rows.now) × (length flags.now ≡ 256) }
-    ensures { result ≡ goes_to (λ a. get_or flags.now a false) (ranked_part (row_at m (was rows) s)) }
+    ensures { result ≡ goes_to (λ a. get_or flags.now a false) (ranked_part (row_at m rows.now s)) }
 {
     let from = s * m;
     let to = from + m;
@@ -36,7 +35,7 @@ fn street(rows: &[u8], m: usize, s: usize, flags: &[bool]) -> u8
 // Each street goes to the first of its list that is chosen, 0 if none is.
 pub fn serve(rows: &[u8], m: usize, flags: &[bool], division: &mut [u8])
     requires { (length rows.now ≡ length division.old * m) × (length flags.now ≡ 256) }
-    ensures { division.new ≡ list_of (length division.old) (λ s. goes_to (λ a. get_or flags.now a false) (ranked_part (row_at m (was rows) s))) }
+    ensures { division.new ≡ list_of (length division.old) (λ s. goes_to (λ a. get_or flags.now a false) (ranked_part (row_at m rows.now s))) }
 {
     for s in 0..division.len() {
         division[s] = street(rows, m, s, flags);

@@ -24,7 +24,7 @@ pub fn hand_plan(
     kilogram_limits: &[u32],
     litre_limits: &[u32],
 ) -> Answer
-    ensures { HandTested (hand_lent n m k kind scores weights rows division claimed kilograms litres kilogram_limits litre_limits) result }
+    ensures { HandTested (hand_lent n m k kind scores.now weights.now rows.now division.now claimed kilograms.now litres.now kilogram_limits.now litre_limits.now) result }
 {
     let x = hand_plans::hand_refusal(
         n,

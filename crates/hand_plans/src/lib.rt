@@ -5,7 +5,7 @@ ghost use Rattle.std.specs.Prelude.{◌≡◌, ◌+◌, ◌*◌, ◌≤◌, ◌<
 ghost use Rattle.counting.specs.Bounds.{most_streets, most_sites};
 ghost use Rattle.counting.specs.Words.{◌or_else◌, one, count_of};
 ghost use Rattle.counting.specs.Lists.{at};
-ghost use Rattle.survey.specs.Town.{town_of, town, was};
+ghost use Rattle.survey.specs.Town.{town_of};
 ghost use Rattle.survey.specs.Refusals.{length_refusal};
 ghost use Rattle.survey.specs.Accepted.{Accepted};
 ghost use Rattle.survey.specs.Rows.{row_at, counted_of, value};
@@ -59,7 +59,7 @@ fn count_sites(counts: &[usize; 256], m: usize, least: usize, most: usize) -> us
 // 18 of a free plan: more than k sites are used. No site has more than all streets, so those with 1 street up to all are the used ones.
 fn used_refusal(division: &[u8], m: usize, k: usize) -> u8
     requires { m ≤ most_sites }
-    ensures { result ≡ used_refusal m k (was division) }
+    ensures { result ≡ used_refusal m k division.now }
 {
     let counts = count_streets(division);
     if k < count_sites(&counts, m, 1, division.len()) {
@@ -71,7 +71,7 @@ fn used_refusal(division: &[u8], m: usize, k: usize) -> u8
 // 18 of a balanced plan: not exactly r sites have q + 1 streets, or not exactly k - r have q. The streets are counted once.
 fn shares_refusal(n: usize, m: usize, k: usize, division: &[u8]) -> u8
     requires { (m ≤ most_sites) × (0 < k) × (n ≤ most_streets) }
-    ensures { result ≡ shares_refusal n m k (was division) }
+    ensures { result ≡ shares_refusal n m k division.now }
 {
     let q = shares::least(n, k);
     let r = shares::larger(n, k);
@@ -89,7 +89,7 @@ fn shares_refusal(n: usize, m: usize, k: usize, division: &[u8]) -> u8
 // 18 of a plan, by its kind.
 fn usage_refusal(kind: usize, n: usize, m: usize, k: usize, division: &[u8]) -> u8
     requires { (m ≤ most_sites) × (0 < k) × (n ≤ most_streets) }
-    ensures { result ≡ usage_refusal kind n m k (was division) }
+    ensures { result ≡ usage_refusal kind n m k division.now }
 {
     if kind == 0 {
         return used_refusal(division, m, k);
@@ -110,7 +110,7 @@ fn lowest_site(kind: usize) -> u8
 // The counted score that the street s gives a site.
 fn street_score(m: usize, scores: &[u16], weight: u8, rows: &[u8], s: usize, site: u8) -> u32
     requires { s * m + m ≤ length rows.now }
-    ensures { result ≡ counted_of weight (was scores) (row_at m (was rows) s) site }
+    ensures { result ≡ counted_of weight scores.now (row_at m rows.now s) site }
 {
     let from = s * m;
     let to = from + m;
@@ -127,7 +127,7 @@ fn plan_total(
     division: &[u8],
 ) -> u32
     requires { Accepted (town_of n m scores.now weights.now rows.now) × (length division.now ≡ n) }
-    ensures { result ≡ division_total (value (town n m scores weights rows)) (was division) }
+    ensures { result ≡ division_total (value (town_of n m scores.now weights.now rows.now)) division.now }
 {
     let mut total: u32 = 0;
     for s in 0..n {
@@ -147,7 +147,7 @@ fn claim_refusal(
     claimed: u32,
 ) -> u8
     requires { Accepted (town_of n m scores.now weights.now rows.now) × (length division.now ≡ n) }
-    ensures { result ≡ claim_refusal (town n m scores weights rows) (was division) claimed }
+    ensures { result ≡ claim_refusal (town_of n m scores.now weights.now rows.now) division.now claimed }
 {
     if claimed != plan_total(n, m, scores, weights, rows, division) {
         return 19;
@@ -167,8 +167,8 @@ fn own_refusal(
     kilogram_limits: &[u32],
     litre_limits: &[u32],
 ) -> u8
-    ensures { result ≡ plan_kind_refusal kind n k or_else length_refusal (length (was division)) n or_else
-        lengths_refusal n m (loads_lent kilograms litres kilogram_limits litre_limits) }
+    ensures { result ≡ plan_kind_refusal kind n k or_else length_refusal (length division.now) n or_else
+        lengths_refusal n m (loads_lent kilograms.now litres.now kilogram_limits.now litre_limits.now) }
 {
     let r = refusals::plan_kind_refusal(kind, n, k);
     if r != 0 {
@@ -207,8 +207,8 @@ fn sent_refusal(
 ) -> u8
     requires accepted { Accepted (town_of n m scores.now weights.now rows.now) × (length division.now ≡ n) }
     requires litre_limits_value { lengths_refusal n m (loads_of kilograms.now litres.now kilogram_limits.now litre_limits.now) ≡ 0 }
-    ensures { result ≡ sent_refusal (town n m scores weights rows) (was division) claimed low used
-        (load_numbers (town n m scores weights rows) (was division) (loads_lent kilograms litres kilogram_limits litre_limits)) }
+    ensures { result ≡ sent_refusal (town_of n m scores.now weights.now rows.now) division.now claimed low used
+        (load_numbers (town_of n m scores.now weights.now rows.now) division.now (loads_lent kilograms.now litres.now kilogram_limits.now litre_limits.now)) }
 {
     let r = loads::loads_refusal(kilograms, litres, kilogram_limits, litre_limits);
     if r != 0 {
@@ -252,7 +252,7 @@ pub fn hand_refusal(
     kilogram_limits: &[u32],
     litre_limits: &[u32],
 ) -> u8
-    ensures { Tried hand_refusal (hand_lent n m k kind scores weights rows division claimed kilograms litres kilogram_limits litre_limits) result }
+    ensures { Tried hand_refusal (hand_lent n m k kind scores.now weights.now rows.now division.now claimed kilograms.now litres.now kilogram_limits.now litre_limits.now) result }
 {
     let own = own_refusal(
         kind,

@@ -1,7 +1,6 @@
 // The calls on a given list of sites: its total, and the division of the streets over it, free or best balanced.
 #![tactic(auto)]
 
-ghost use Rattle.survey.specs.Town.{is};
 ghost use Rattle.refusals.specs.Inputs.{list_lent, division_lent};
 ghost use Rattle.list_calls.specs.Calls.{ListTotalled, FreeDivided, BalancedDivided};
 
@@ -16,7 +15,7 @@ pub fn list_total(
     rows: &[u8],
     sites: &[u8],
 ) -> Answer
-    ensures { ListTotalled (list_lent n m scores weights rows sites) result }
+    ensures { ListTotalled (list_lent n m scores.now weights.now rows.now sites.now) result }
 {
     let x = refusals::list_total_refusal(n, m, scores, weights, rows, sites);
     if x != 0 {
@@ -35,7 +34,7 @@ pub fn free_division(
     sites: &[u8],
     division: &mut [u8],
 ) -> Answer
-    ensures { FreeDivided (division_lent n m scores weights rows sites division) (is division) result }
+    ensures { FreeDivided (division_lent n m scores.now weights.now rows.now sites.now division.old) division.new result }
 {
     let x = refusals::free_division_refusal(n, m, scores, weights, rows, sites, division);
     if x != 0 {
@@ -55,7 +54,7 @@ pub fn balanced_division(
     sites: &[u8],
     division: &mut [u8],
 ) -> Answer
-    ensures { BalancedDivided (division_lent n m scores weights rows sites division) (is division) result }
+    ensures { BalancedDivided (division_lent n m scores.now weights.now rows.now sites.now division.old) division.new result }
 {
     let x = refusals::balanced_division_refusal(n, m, scores, weights, rows, sites, division);
     if x != 0 {

@@ -4,7 +4,6 @@
 use Rattle.std.specs.Prelude.{ℕ, suc, ◌≤◌, ◌<◌, List, ltb, eqb, length}
 use Rattle.counting.specs.Words.{◌when◌, ◌or_else◌, first_nonzero}
 use Rattle.counting.specs.Lists.{at}
-use Rattle.survey.specs.Town.{Lent, was}
 use Rattle.survey.specs.Refusals.{length_refusal}
 use Rattle.division.specs.Shares.{division_total}
 
@@ -31,8 +30,8 @@ loads_of kilograms litres kilogram_limits litre_limits =
     record { kilograms = load_of kilograms kilogram_limits; litres = load_of litres litre_limits }
 
 -- the loads that a call is lent
-abbrev pub loads_lent : Lent → Lent → Lent → Lent → Loads
-loads_lent kilograms litres kilogram_limits litre_limits = loads_of (was kilograms) (was litres) (was kilogram_limits) (was litre_limits)
+abbrev pub loads_lent : List ℕ → List ℕ → List ℕ → List ℕ → Loads
+loads_lent kilograms litres kilogram_limits litre_limits = loads_of kilograms litres kilogram_limits litre_limits
 
 -- 6: a load of each kind for each street, and a limit of each kind for each site
 abbrev pub lengths_refusal : ℕ → ℕ → Loads → ℕ

@@ -4,7 +4,6 @@
 ghost use Rattle.std.specs.Prelude.{◌≡◌, ◌≤◌, length};
 ghost use Rattle.counting.specs.Bounds.{most_streets, most_sites};
 ghost use Rattle.counting.specs.Lists.{at};
-ghost use Rattle.survey.specs.Town.{was};
 ghost use Rattle.loads.specs.Loads.{load_of, loads_lent, above_refusal, loads_refusal, limits_refusal};
 ghost use Rattle.loads.specs.Sums.{Summed, FirstOver};
 
@@ -13,7 +12,7 @@ pub const MOST: u32 = 1000000;
 
 // 21: a load or limit above the greatest one.
 fn above_refusal(numbers: &[u32]) -> u8
-    ensures { result ≡ above_refusal (was numbers) }
+    ensures { result ≡ above_refusal numbers.now }
 {
     for j in 0..numbers.len() {
         if MOST < numbers[j] {
@@ -30,7 +29,7 @@ pub fn loads_refusal(
     kilogram_limits: &[u32],
     litre_limits: &[u32],
 ) -> u8
-    ensures { result ≡ loads_refusal (loads_lent kilograms litres kilogram_limits litre_limits) }
+    ensures { result ≡ loads_refusal (loads_lent kilograms.now litres.now kilogram_limits.now litre_limits.now) }
 {
     let r = above_refusal(kilograms);
     if r != 0 {
@@ -65,7 +64,7 @@ fn sum_sites(division: &[u8], loads: &[u32]) -> [u32; 256]
 fn first_over(division: &[u8], loads: &[u32], limits: &[u32]) -> usize
     requires division_len_bound { (length division.now ≤ most_streets) × (length limits.now ≤ most_sites) }
     requires loads_len { (length loads.now ≡ length division.now) × (above_refusal loads.now ≡ 0) }
-    ensures { FirstOver (load_of (was loads) (was limits)) (was division) result }
+    ensures { FirstOver (load_of loads.now limits.now) division.now result }
 {
     let sums = sum_sites(division, loads);
     for a in 0..limits.len() {
@@ -88,7 +87,7 @@ pub fn limits_refusal(
     requires m_le_most_sites { (m ≤ most_sites) × (length division.now ≤ most_streets) }
     requires kilograms_len { (length kilograms.now ≡ length division.now) × (above_refusal kilograms.now ≡ 0) × (length kilogram_limits.now ≡ m) }
     requires litres_len { (length litres.now ≡ length division.now) × (above_refusal litres.now ≡ 0) × (length litre_limits.now ≡ m) }
-    ensures { result ≡ limits_refusal m (loads_lent kilograms litres kilogram_limits litre_limits) (was division) }
+    ensures { result ≡ limits_refusal m (loads_lent kilograms.now litres.now kilogram_limits.now litre_limits.now) division.now }
 {
     let by_kilograms = first_over(division, kilograms, kilogram_limits);
     let by_litres = first_over(division, litres, litre_limits);

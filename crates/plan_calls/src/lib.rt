@@ -1,7 +1,6 @@
 // The call that makes a plan, free or balanced, and the floor.
 #![tactic(auto)]
 
-ghost use Rattle.survey.specs.Town.{is};
 ghost use Rattle.refusals.specs.Inputs.{survey_lent, plan_lent};
 ghost use Rattle.plan_calls.specs.Calls.{Planned, FloorGiven};
 
@@ -20,7 +19,7 @@ pub fn plan(
     division: &mut [u8],
     chosen: &mut [u8],
 ) -> Answer
-    ensures { Planned (plan_lent n m k kind scores weights rows division chosen) (is division) (is chosen) result }
+    ensures { Planned (plan_lent n m k kind scores.now weights.now rows.now division.old chosen.old) division.new chosen.new result }
 {
     let x = refusals::plan_refusal(n, m, k, kind, scores, weights, rows, division, chosen);
     if x != 0 {
@@ -34,7 +33,7 @@ pub fn plan(
 
 // The floor: what every balanced plan of k sites totals at least. Refuses with 1, 2, 3, 5, 6, 8, 24, 9, 10 or 11.
 pub fn floor(n: usize, m: usize, k: usize, scores: &[u16], weights: &[u8], rows: &[u8]) -> Answer
-    ensures { FloorGiven (survey_lent n m k scores weights rows) result }
+    ensures { FloorGiven (survey_lent n m k scores.now weights.now rows.now) result }
 {
     let x = refusals::floor_refusal(n, m, k, scores, weights, rows);
     if x != 0 {

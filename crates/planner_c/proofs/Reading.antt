@@ -6,7 +6,6 @@ use mathlib.Core.List.{List}
 use Prim.Native.Nat.{ℕ, zero, suc}
 use mir.Val.{bool_byte}
 use Rattle.counting.proofs.Equations.{along}
-use Rattle.survey.specs.Town.{is}
 use Rattle.refusals.specs.Inputs.{ReadInput}
 use Rattle.refusals.specs.Refusals.{read_refusal}
 use Rattle.file_refusals.proofs.SizesGiven.{GivenSizes}

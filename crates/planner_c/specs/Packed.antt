@@ -1,8 +1,6 @@
 -- How a call's promise crosses to another language: its answer as one number, and the reader's sizes and form through numbers that the caller lends.
 -- Assumes nothing.
 use Rattle.std.specs.Prelude.{ℕ, zero, suc, ◌*◌, ◌≡◌, Bool, not, cond, List, eqb}
-use Rattle.std.specs.Borrow.{Bor}
-use denote.Triple.Both.{Both}
 use Rattle.survey_file.specs.Decode.{form_in, streets_in, sites_in, chosen_in, kind_in}
 use Rattle.refusals.specs.Inputs.{ReadInput}
 use Rattle.refusals.specs.Refusals.{read_refusal}
@@ -53,16 +51,6 @@ pub record Sizes : Type 0 where
 
 abbrev pub sizes_of : ℕ → ℕ → ℕ → ℕ → ℕ → Sizes
 sizes_of n m k kind form = record { n = n; m = m; k = k; kind = kind; form = form }
-
--- a lent number, and what the five hold when the call begins and when it ends
-abbrev pub LentNumber : Type 0
-LentNumber = Both (Bor ℕ) (Bor ℕ)
-
-abbrev pub sizes_were : LentNumber → LentNumber → LentNumber → LentNumber → LentNumber → Sizes
-sizes_were n m k kind form = sizes_of n.entry.now m.entry.now k.entry.now kind.entry.now form.entry.now
-
-abbrev pub sizes_are : LentNumber → LentNumber → LentNumber → LentNumber → LentNumber → Sizes
-sizes_are n m k kind form = sizes_of n.exit.now m.exit.now k.exit.now kind.exit.now form.exit.now
 
 -- what they hold after a refusal x: the file's sizes, kind and form where it is 0, else what they held
 abbrev pub sizes_after : ℕ → List ℕ → Sizes → Sizes

@@ -4,7 +4,6 @@
 #![tactic(auto)]
 
 ghost use Rattle.std.specs.Prelude.{◌≡◌, length};
-ghost use Rattle.survey.specs.Town.{was, is};
 ghost use Rattle.survey.specs.Rows.{ranked_part};
 ghost use Rattle.refusals.specs.Inputs.{survey_lent, row_lent, list_lent, division_lent, plan_lent, hand_lent, write_lent, read_lent, convert_lent};
 ghost use Rattle.call_answers.specs.Answers.{number, total};
@@ -13,7 +12,7 @@ ghost use Rattle.list_calls.specs.Calls.{FreeDivided, BalancedDivided, ListTotal
 ghost use Rattle.plan_calls.specs.Calls.{Planned, FloorGiven};
 ghost use Rattle.hand_calls.specs.Calls.{HandTested};
 ghost use Rattle.file_calls.specs.Calls.{FileWritten, FileConverted};
-ghost use Rattle.planner_c.specs.Packed.{version, packed, PacksChecked, PacksAnswer, form_of, sizes_were, sizes_are, FileReadInto};
+ghost use Rattle.planner_c.specs.Packed.{version, packed, PacksChecked, PacksAnswer, form_of, sizes_of, FileReadInto};
 
 use planner::{Answer, Checked, Read};
 
@@ -62,7 +61,7 @@ pub extern "C" fn planner_check_survey(
     weights: &[u8],
     rows: &[u8],
 ) -> u64
-    ensures { PacksChecked (SurveyChecked (survey_lent n m k scores weights rows)) result }
+    ensures { PacksChecked (SurveyChecked (survey_lent n m k scores.now weights.now rows.now)) result }
 {
     packed_check(planner::check_survey(n, m, k, scores, weights, rows))
 }
@@ -70,7 +69,7 @@ pub extern "C" fn planner_check_survey(
 // The length of the ranked part of a row; its bytes are the caller's own. Refuses nothing.
 #[unsafe(no_mangle)]
 pub extern "C" fn planner_ranked_part(row: &[u8]) -> usize
-    ensures { result ≡ length (ranked_part (was row)) }
+    ensures { result ≡ length (ranked_part row.now) }
 {
     planner::ranked_part(row).len()
 }
@@ -84,7 +83,7 @@ pub extern "C" fn planner_row_score(
     row: &[u8],
     site: u8,
 ) -> u64
-    ensures { PacksAnswer (RowScored (row_lent m scores weight row site)) result }
+    ensures { PacksAnswer (RowScored (row_lent m scores.now weight row.now site)) result }
 {
     packed_answer(planner::row_score(m, scores, weight, row, site))
 }
@@ -99,7 +98,7 @@ pub extern "C" fn planner_list_total(
     rows: &[u8],
     sites: &[u8],
 ) -> u64
-    ensures { PacksAnswer (ListTotalled (list_lent n m scores weights rows sites)) result }
+    ensures { PacksAnswer (ListTotalled (list_lent n m scores.now weights.now rows.now sites.now)) result }
 {
     packed_answer(planner::list_total(n, m, scores, weights, rows, sites))
 }
@@ -115,7 +114,7 @@ pub extern "C" fn planner_free_division(
     sites: &[u8],
     division: &mut [u8],
 ) -> u64
-    ensures { PacksAnswer (FreeDivided (division_lent n m scores weights rows sites division) (is division)) result }
+    ensures { PacksAnswer (FreeDivided (division_lent n m scores.now weights.now rows.now sites.now division.old) division.new) result }
 {
     packed_answer(planner::free_division(n, m, scores, weights, rows, sites, division))
 }
@@ -131,7 +130,7 @@ pub extern "C" fn planner_balanced_division(
     sites: &[u8],
     division: &mut [u8],
 ) -> u64
-    ensures { PacksAnswer (BalancedDivided (division_lent n m scores weights rows sites division) (is division)) result }
+    ensures { PacksAnswer (BalancedDivided (division_lent n m scores.now weights.now rows.now sites.now division.old) division.new) result }
 {
     packed_answer(planner::balanced_division(n, m, scores, weights, rows, sites, division))
 }
@@ -150,7 +149,7 @@ pub extern "C" fn planner_plan(
     division: &mut [u8],
     chosen: &mut [u8],
 ) -> u64
-    ensures { PacksAnswer (Planned (plan_lent n m k kind scores weights rows division chosen) (is division) (is chosen)) result }
+    ensures { PacksAnswer (Planned (plan_lent n m k kind scores.now weights.now rows.now division.old chosen.old) division.new chosen.new) result }
 {
     packed_answer(planner::plan(n, m, k, kind, scores, weights, rows, division, chosen))
 }
@@ -165,7 +164,7 @@ pub extern "C" fn planner_floor(
     weights: &[u8],
     rows: &[u8],
 ) -> u64
-    ensures { PacksAnswer (FloorGiven (survey_lent n m k scores weights rows)) result }
+    ensures { PacksAnswer (FloorGiven (survey_lent n m k scores.now weights.now rows.now)) result }
 {
     packed_answer(planner::floor(n, m, k, scores, weights, rows))
 }
@@ -189,7 +188,7 @@ pub extern "C" fn planner_hand_plan(
     litre_limits: &[u32],
 ) -> u64
     ensures { PacksAnswer
-        (HandTested (hand_lent n m k kind scores weights rows division claimed kilograms litres kilogram_limits litre_limits)) result }
+        (HandTested (hand_lent n m k kind scores.now weights.now rows.now division.now claimed kilograms.now litres.now kilogram_limits.now litre_limits.now)) result }
 {
     packed_answer(planner::hand_plan(
         n,
@@ -221,7 +220,7 @@ pub extern "C" fn planner_write_file(
     rows: &[u8],
     file: &mut [u8],
 ) -> u64
-    ensures { PacksAnswer (FileWritten (write_lent n m k kind (form_of form) scores weights rows file) (is file)) result }
+    ensures { PacksAnswer (FileWritten (write_lent n m k kind (form_of form) scores.now weights.now rows.now file.old) file.new) result }
 {
     packed_answer(planner::write_file(n, m, k, kind, form != 0, scores, weights, rows, file))
 }
@@ -240,8 +239,8 @@ pub extern "C" fn planner_read_file(
     weights: &mut [u8],
     rows: &mut [u8],
 ) -> u64
-    ensures { FileReadInto (read_lent file scores weights rows) (is scores) (is weights) (is rows) (sizes_were n m k kind form)
-        (sizes_are n m k kind form) result }
+    ensures { FileReadInto (read_lent file.now scores.old weights.old rows.old) scores.new weights.new rows.new (sizes_of n.old m.old k.old kind.old form.old)
+        (sizes_of n.new m.new k.new kind.new form.new) result }
 {
     let answer = planner::read_file(file, scores, weights, rows);
     match answer {
@@ -266,7 +265,7 @@ pub extern "C" fn planner_read_file(
 // Puts a survey file into the old form where `form` is 0 and else into the new one, in a buffer of any length; the total is the length there.
 #[unsafe(no_mangle)]
 pub extern "C" fn planner_convert_file(file: &[u8], form: usize, buffer: &mut [u8]) -> u64
-    ensures { PacksAnswer (FileConverted (convert_lent file (form_of form) buffer) (is buffer)) result }
+    ensures { PacksAnswer (FileConverted (convert_lent file.now (form_of form) buffer.old) buffer.new) result }
 {
     packed_answer(planner::convert_file(file, form != 0, buffer))
 }

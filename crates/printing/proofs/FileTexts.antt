@@ -9,7 +9,7 @@ use lib.Seq.{take_at}
 use Rattle.counting.specs.Bounds.{most_streets, most_sites, most_rows}
 use Rattle.counting.specs.Buffers.{after, laid}
 use Rattle.counting.proofs.Refusals.{own-pass}
-use Rattle.survey.specs.Town.{Town, town_of, town}
+use Rattle.survey.specs.Town.{Town, town_of}
 use Rattle.survey.specs.Refusals.{kind_refusal, length_refusal, survey_refusal}
 use Rattle.survey.specs.Accepted.{Accepted}
 use Rattle.survey.proofs.Sound.{accepted}

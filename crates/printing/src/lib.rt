@@ -3,7 +3,7 @@
 
 ghost use Rattle.std.specs.Prelude.{◌≡◌, ◌≤◌, length};
 ghost use Rattle.counting.specs.Buffers.{Written};
-ghost use Rattle.survey.specs.Town.{town_of, was, is, town};
+ghost use Rattle.survey.specs.Town.{town_of};
 ghost use Rattle.survey_file.specs.Encode.{most_file};
 ghost use Rattle.refusals.specs.Inputs.{plan_of};
 ghost use Rattle.listing.specs.Listing.{most_text};
@@ -27,7 +27,7 @@ fn write_answer(
 ) -> usize
     requires listing_asked { ListingAsked m rows.now sites.now division.now }
     requires most_text_in_bounds { most_text ≤ length out.old }
-    ensures { Written (was out) 0 (answer_text answer m (was rows) (was sites) (was division)) (is out) result }
+    ensures { Written out.old 0 (answer_text answer m rows.now sites.now division.now) out.new result }
 {
     match answer {
         Answer::Total(total) => listing::write_listing(
@@ -57,7 +57,7 @@ fn print_plan(
 ) -> usize
     requires plan_asked { PlanAsked (plan_of (town_of n m scores.now weights.now rows.now) k kind division.old chosen.old) }
     requires most_text_in_bounds { most_text ≤ length out.old }
-    ensures { Written (was out) 0 (plan_text (town n m scores weights rows) k kind) (is out) result }
+    ensures { Written out.old 0 (plan_text (town_of n m scores.now weights.now rows.now) k kind) out.new result }
 {
     let answer = planner::plan(n, m, k, kind, scores, weights, rows, division, chosen);
     write_answer(answer, m, rows, chosen, division, out)
@@ -76,7 +76,7 @@ fn print_survey<'a>(
 ) -> usize
     requires survey_held { SurveyHeld (survey_held n m k kind scores.now weights.now rows.now) }
     requires most_text_in_bounds { most_text ≤ length out.old }
-    ensures { Written (was out) 0 (plan_text (town_held (survey_held n m k kind (was scores) (was weights) (was rows))) k kind) (is out) result }
+    ensures { Written out.old 0 (plan_text (town_held (survey_held n m k kind scores.now weights.now rows.now)) k kind) out.new result }
 {
     let mut division = [0u8; Survey::STREETS];
     let mut chosen = [0u8; Survey::SITES];
@@ -99,7 +99,7 @@ fn print_survey<'a>(
 fn print_held(survey: Survey, out: &mut [u8]) -> usize
     requires survey_held { SurveyHeld survey }
     requires most_text_in_bounds { most_text ≤ length out.old }
-    ensures { Written (was out) 0 (plan_text (town_held survey) survey.k survey.kind) (is out) result }
+    ensures { Written out.old 0 (plan_text (town_held survey) survey.k survey.kind) out.new result }
 {
     print_survey(
         survey.n,
@@ -117,8 +117,8 @@ fn print_held(survey: Survey, out: &mut [u8]) -> usize
 // empty at first; the reader fills its buffers, and the plan is made from it.
 pub fn print(file: &[u8], out: &mut [u8]) -> usize
     requires { most_text ≤ length out.old }
-    ensures text { Written (was out) 0 (printed (was file)) (is out) result }
-    ensures* longest { do ⌜ (← (⟦Survey::FILE⟧).entry) ≡ most_file ⌝ }
+    ensures text { Written out.old 0 (printed file.now) out.new result }
+    ensures longest { Survey.FILE ≡ most_file }
 {
     let empty = Survey::empty();
     let mut rows = empty.rows;

@@ -1,8 +1,8 @@
 -- What each call is given, in one record: a further input of a call is a further field. A buffer that is lent stands here as it is when the
--- call begins. Each record is written in one place, `..Of`; `..Lent` is the input of a call by its parameters, for its contract.
+-- call begins. Each record is written in one place, `.._of`; `.._lent` is the input of a call by its parameters, for its contract.
 -- Assumes nothing.
 use Rattle.std.specs.Prelude.{ℕ, Bool, List}
-use Rattle.survey.specs.Town.{Town, Lent, was, town}
+use Rattle.survey.specs.Town.{Town, town_of}
 use Rattle.loads.specs.Loads.{Loads, loads_lent}
 use Rattle.survey_file.specs.Filed.{Filed, filed_of}
 
@@ -14,8 +14,8 @@ pub record SurveyInput : Type 0 where
 abbrev pub survey_of : Town → ℕ → SurveyInput
 survey_of t k = record { town = t; k = k }
 
-abbrev pub survey_lent : ℕ → ℕ → ℕ → Lent → Lent → Lent → SurveyInput
-survey_lent n m k scores weights rows = survey_of (town n m scores weights rows) k
+abbrev pub survey_lent : ℕ → ℕ → ℕ → List ℕ → List ℕ → List ℕ → SurveyInput
+survey_lent n m k scores weights rows = survey_of (town_of n m scores weights rows) k
 
 -- one row of m bytes and one site, with the scores and the street's weight
 pub record RowInput : Type 0 where
@@ -28,8 +28,8 @@ pub record RowInput : Type 0 where
 abbrev pub row_input_of : ℕ → List ℕ → ℕ → List ℕ → ℕ → RowInput
 row_input_of m scores weight row site = record { m = m; scores = scores; weight = weight; row = row; site = site }
 
-abbrev pub row_lent : ℕ → Lent → ℕ → Lent → ℕ → RowInput
-row_lent m scores weight row site = row_input_of m (was scores) weight (was row) site
+abbrev pub row_lent : ℕ → List ℕ → ℕ → List ℕ → ℕ → RowInput
+row_lent m scores weight row site = row_input_of m scores weight row site
 
 -- a given list of sites: its total
 pub record ListInput : Type 0 where
@@ -39,8 +39,8 @@ pub record ListInput : Type 0 where
 abbrev pub list_input_of : Town → List ℕ → ListInput
 list_input_of t sites = record { town = t; sites = sites }
 
-abbrev pub list_lent : ℕ → ℕ → Lent → Lent → Lent → Lent → ListInput
-list_lent n m scores weights rows sites = list_input_of (town n m scores weights rows) (was sites)
+abbrev pub list_lent : ℕ → ℕ → List ℕ → List ℕ → List ℕ → List ℕ → ListInput
+list_lent n m scores weights rows sites = list_input_of (town_of n m scores weights rows) sites
 
 -- the same with a buffer for the division over it, free or balanced
 pub record DivisionInput : Type 0 where
@@ -51,8 +51,8 @@ pub record DivisionInput : Type 0 where
 abbrev pub division_of : Town → List ℕ → List ℕ → DivisionInput
 division_of t sites division = record { town = t; sites = sites; division = division }
 
-abbrev pub division_lent : ℕ → ℕ → Lent → Lent → Lent → Lent → Lent → DivisionInput
-division_lent n m scores weights rows sites division = division_of (town n m scores weights rows) (was sites) (was division)
+abbrev pub division_lent : ℕ → ℕ → List ℕ → List ℕ → List ℕ → List ℕ → List ℕ → DivisionInput
+division_lent n m scores weights rows sites division = division_of (town_of n m scores weights rows) sites division
 
 -- a plan of k sites of a kind, with a buffer for the division and one for the sites
 pub record PlanInput : Type 0 where
@@ -65,8 +65,8 @@ pub record PlanInput : Type 0 where
 abbrev pub plan_of : Town → ℕ → ℕ → List ℕ → List ℕ → PlanInput
 plan_of t k kind division chosen = record { town = t; k = k; kind = kind; division = division; chosen = chosen }
 
-abbrev pub plan_lent : ℕ → ℕ → ℕ → ℕ → Lent → Lent → Lent → Lent → Lent → PlanInput
-plan_lent n m k kind scores weights rows division chosen = plan_of (town n m scores weights rows) k kind (was division) (was chosen)
+abbrev pub plan_lent : ℕ → ℕ → ℕ → ℕ → List ℕ → List ℕ → List ℕ → List ℕ → List ℕ → PlanInput
+plan_lent n m k kind scores weights rows division chosen = plan_of (town_of n m scores weights rows) k kind division chosen
 
 -- a hand-made plan of k sites of a kind: a site for each street, the total that is claimed, and what the streets bring to their sites
 pub record HandInput : Type 0 where
@@ -80,9 +80,9 @@ pub record HandInput : Type 0 where
 abbrev pub hand_of : Town → ℕ → ℕ → List ℕ → ℕ → Loads → HandInput
 hand_of t k kind division claimed loads = record { town = t; k = k; kind = kind; division = division; claimed = claimed; loads = loads }
 
-abbrev pub hand_lent : ℕ → ℕ → ℕ → ℕ → Lent → Lent → Lent → Lent → ℕ → Lent → Lent → Lent → Lent → HandInput
+abbrev pub hand_lent : ℕ → ℕ → ℕ → ℕ → List ℕ → List ℕ → List ℕ → List ℕ → ℕ → List ℕ → List ℕ → List ℕ → List ℕ → HandInput
 hand_lent n m k kind scores weights rows division claimed kilograms litres kilogram_limits litre_limits =
-    hand_of (town n m scores weights rows) k kind (was division) claimed (loads_lent kilograms litres kilogram_limits litre_limits)
+    hand_of (town_of n m scores weights rows) k kind division claimed (loads_lent kilograms litres kilogram_limits litre_limits)
 
 -- what a file is to hold, its form among it, and a buffer for the file
 pub record WriteInput : Type 0 where
@@ -92,8 +92,8 @@ pub record WriteInput : Type 0 where
 abbrev pub write_of : Filed → List ℕ → WriteInput
 write_of filed file = record { filed = filed; file = file }
 
-abbrev pub write_lent : ℕ → ℕ → ℕ → ℕ → Bool → Lent → Lent → Lent → Lent → WriteInput
-write_lent n m k kind new_form scores weights rows file = write_of (filed_of new_form (town n m scores weights rows) k kind) (was file)
+abbrev pub write_lent : ℕ → ℕ → ℕ → ℕ → Bool → List ℕ → List ℕ → List ℕ → List ℕ → WriteInput
+write_lent n m k kind new_form scores weights rows file = write_of (filed_of new_form (town_of n m scores weights rows) k kind) file
 
 -- a file, and buffers for its scores, weights and rows
 pub record ReadInput : Type 0 where
@@ -105,8 +105,8 @@ pub record ReadInput : Type 0 where
 abbrev pub read_of : List ℕ → List ℕ → List ℕ → List ℕ → ReadInput
 read_of file scores weights rows = record { file = file; scores = scores; weights = weights; rows = rows }
 
-abbrev pub read_lent : Lent → Lent → Lent → Lent → ReadInput
-read_lent file scores weights rows = read_of (was file) (was scores) (was weights) (was rows)
+abbrev pub read_lent : List ℕ → List ℕ → List ℕ → List ℕ → ReadInput
+read_lent file scores weights rows = read_of file scores weights rows
 
 -- a file, the form in which it is wanted, and a buffer for that
 pub record ConvertInput : Type 0 where
@@ -117,5 +117,5 @@ pub record ConvertInput : Type 0 where
 abbrev pub convert_of : List ℕ → Bool → List ℕ → ConvertInput
 convert_of file wanted buffer = record { file = file; wanted = wanted; buffer = buffer }
 
-abbrev pub convert_lent : Lent → Bool → Lent → ConvertInput
-convert_lent file wanted buffer = convert_of (was file) wanted (was buffer)
+abbrev pub convert_lent : List ℕ → Bool → List ℕ → ConvertInput
+convert_lent file wanted buffer = convert_of file wanted buffer

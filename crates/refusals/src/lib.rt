@@ -3,7 +3,7 @@
 
 ghost use Rattle.std.specs.Prelude.{◌≡◌};
 ghost use Rattle.counting.specs.Words.{◌when◌, ◌or_else◌};
-ghost use Rattle.survey.specs.Town.{town, was};
+ghost use Rattle.survey.specs.Town.{town_of};
 ghost use Rattle.survey.specs.Refusals.{kind_refusal, share_refusal, length_refusal};
 ghost use Rattle.refusals.specs.Inputs.{survey_lent, row_lent, list_lent, division_lent, plan_lent};
 ghost use Rattle.refusals.specs.Refusals.{Tried, range_refusal, row_score_refusal, ranges_refusal, twice_refusal, list_refusal, listed_refusal};
@@ -38,7 +38,7 @@ fn range_refusal(low: u8, m: usize, site: u8) -> u8
 
 // The first refusal of a row of m bytes and a site, with the scores and the street's weight.
 pub fn row_score_refusal(m: usize, scores: &[u16], weight: u8, row: &[u8], site: u8) -> u8
-    ensures { Tried row_score_refusal (row_lent m scores weight row site) result }
+    ensures { Tried row_score_refusal (row_lent m scores.now weight row.now site) result }
 {
     if m < 1 {
         return 2;
@@ -69,7 +69,7 @@ pub fn row_score_refusal(m: usize, scores: &[u16], weight: u8, row: &[u8], site:
 
 // 17 all through a list of sites.
 pub fn ranges_refusal(low: u8, m: usize, sites: &[u8]) -> u8
-    ensures { result ≡ ranges_refusal low m (was sites) }
+    ensures { result ≡ ranges_refusal low m sites.now }
 {
     for j in 0..sites.len() {
         let r = range_refusal(low, m, sites[j]);
@@ -92,7 +92,7 @@ fn again_refusal(again: bool) -> u8
 
 // 20: a site that is listed twice. The table of sites seen so far spares a scan of the list for each site.
 pub fn twice_refusal(sites: &[u8]) -> u8
-    ensures { result ≡ twice_refusal (was sites) }
+    ensures { result ≡ twice_refusal sites.now }
 {
     let mut seen = [false; 256];
     for j in 0..sites.len() {
@@ -108,7 +108,7 @@ pub fn twice_refusal(sites: &[u8]) -> u8
 
 // A given list of sites: 17 all through, then 20.
 pub fn list_refusal(m: usize, sites: &[u8]) -> u8
-    ensures { result ≡ list_refusal m (was sites) }
+    ensures { result ≡ list_refusal m sites.now }
 {
     let r = ranges_refusal(1, m, sites);
     if r != 0 {
@@ -127,7 +127,7 @@ fn listed_refusal(
     rows: &[u8],
     sites: &[u8],
 ) -> u8
-    ensures { result ≡ listed_refusal (town n m scores weights rows) (was sites) own }
+    ensures { result ≡ listed_refusal (town_of n m scores.now weights.now rows.now) sites.now own }
 {
     let r = check::survey_refusal(n, m, sites.len(), own, scores, weights, rows);
     if r != 0 {
@@ -145,7 +145,7 @@ pub fn list_total_refusal(
     rows: &[u8],
     sites: &[u8],
 ) -> u8
-    ensures { Tried list_total_refusal (list_lent n m scores weights rows sites) result }
+    ensures { Tried list_total_refusal (list_lent n m scores.now weights.now rows.now sites.now) result }
 {
     listed_refusal(n, m, 0, scores, weights, rows, sites)
 }
@@ -160,7 +160,7 @@ pub fn free_division_refusal(
     sites: &[u8],
     division: &[u8],
 ) -> u8
-    ensures { Tried free_division_refusal (division_lent n m scores weights rows sites division) result }
+    ensures { Tried free_division_refusal (division_lent n m scores.now weights.now rows.now sites.now division.now) result }
 {
     let own = length_refusal(division.len(), n);
     listed_refusal(n, m, own, scores, weights, rows, sites)
@@ -178,7 +178,7 @@ fn share_refusal(n: usize, k: usize) -> u8
 
 // What a balanced division is tried for besides: 5, then 6 for its buffer.
 fn balance_refusal(n: usize, k: usize, division: &[u8]) -> u8
-    ensures { result ≡ balance_refusal n k (was division) }
+    ensures { result ≡ balance_refusal n k division.now }
 {
     let r = share_refusal(n, k);
     if r != 0 {
@@ -197,7 +197,7 @@ pub fn balanced_division_refusal(
     sites: &[u8],
     division: &[u8],
 ) -> u8
-    ensures { Tried balanced_division_refusal (division_lent n m scores weights rows sites division) result }
+    ensures { Tried balanced_division_refusal (division_lent n m scores.now weights.now rows.now sites.now division.now) result }
 {
     let own = balance_refusal(n, sites.len(), division);
     listed_refusal(n, m, own, scores, weights, rows, sites)
@@ -205,7 +205,7 @@ pub fn balanced_division_refusal(
 
 // 6 for the two buffers of a plan.
 fn buffers_refusal(n: usize, k: usize, division: &[u8], chosen: &[u8]) -> u8
-    ensures { result ≡ buffers_refusal n k (was division) (was chosen) }
+    ensures { result ≡ buffers_refusal n k division.now chosen.now }
 {
     let r = length_refusal(division.len(), n);
     if r != 0 {
@@ -240,7 +240,7 @@ pub fn plan_kind_refusal(kind: usize, n: usize, k: usize) -> u8
 
 // What a plan is tried for besides its survey: its kind, then 6 for its two buffers.
 fn plan_own_refusal(kind: usize, n: usize, k: usize, division: &[u8], chosen: &[u8]) -> u8
-    ensures { result ≡ plan_kind_refusal kind n k or_else buffers_refusal n k (was division) (was chosen) }
+    ensures { result ≡ plan_kind_refusal kind n k or_else buffers_refusal n k division.now chosen.now }
 {
     let r = plan_kind_refusal(kind, n, k);
     if r != 0 {
@@ -261,7 +261,7 @@ pub fn plan_refusal(
     division: &[u8],
     chosen: &[u8],
 ) -> u8
-    ensures { Tried plan_refusal (plan_lent n m k kind scores weights rows division chosen) result }
+    ensures { Tried plan_refusal (plan_lent n m k kind scores.now weights.now rows.now division.now chosen.now) result }
 {
     let own = plan_own_refusal(kind, n, k, division, chosen);
     check::survey_refusal(n, m, k, own, scores, weights, rows)
@@ -276,7 +276,7 @@ pub fn floor_refusal(
     weights: &[u8],
     rows: &[u8],
 ) -> u8
-    ensures { Tried floor_refusal (survey_lent n m k scores weights rows) result }
+    ensures { Tried floor_refusal (survey_lent n m k scores.now weights.now rows.now) result }
 {
     let own = share_refusal(n, k);
     check::survey_refusal(n, m, k, own, scores, weights, rows)

@@ -2,8 +2,6 @@
 -- number of sites to choose, the kind of plan and the like belong to the call that asks for a plan.
 -- Assumes nothing.
 use Rattle.std.specs.Prelude.{ℕ, List, replicate}
-use Rattle.std.specs.Borrow.{Bor}
-use denote.Triple.Both.{Both}
 
 -- n streets and m sites, the score of each place, the household weight of each street, and the streets' rows of m bytes one behind the other. Streets
 -- are counted from 0, sites from 1
@@ -21,19 +19,3 @@ town_of n m scores weights rows = record { n = n; m = m; scores = scores; weight
 -- the town of a survey that gives no weights, as an old survey file does: each street has the weight 1
 abbrev pub plain_town : ℕ → ℕ → List ℕ → List ℕ → Town
 plain_town n m scores rows = town_of n m scores (replicate n 1) rows
-
--- ---- in a contract
--- a slice of numbers that a call is lent
-abbrev pub Lent : Type 0
-Lent = Both (Bor (List ℕ)) (Bor (List ℕ))
-
--- what it held when the call began, and what it holds now
-abbrev pub was : Lent → List ℕ
-was slice = slice.entry.now
-
-abbrev pub is : Lent → List ℕ
-is slice = slice.exit.now
-
--- the town that a call is lent
-abbrev pub town : ℕ → ℕ → Lent → Lent → Lent → Town
-town n m scores weights rows = town_of n m (was scores) (was weights) (was rows)

@@ -22,7 +22,7 @@ pub fn check_survey(
     weights: &[u8],
     rows: &[u8],
 ) -> Checked
-    ensures { SurveyChecked (survey_lent n m k scores weights rows) result }
+    ensures { SurveyChecked (survey_lent n m k scores.now weights.now rows.now) result }
 {
     let x = survey_check::check::survey_refusal(n, m, k, 0, scores, weights, rows);
     if x != 0 {
@@ -40,7 +40,7 @@ pub fn ranked_part(row: &[u8]) -> &[u8]
 
 // The counted score that one row of m bytes gives one site: its score times the street's weight. Refuses with 2, 6, 8, 24, 9, 10, 11 or 17.
 pub fn row_score(m: usize, scores: &[u16], weight: u8, row: &[u8], site: u8) -> Answer
-    ensures { RowScored (row_lent m scores weight row site) result }
+    ensures { RowScored (row_lent m scores.now weight row.now site) result }
 {
     let x = refusals::row_score_refusal(m, scores, weight, row, site);
     if x != 0 {

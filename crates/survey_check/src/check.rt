@@ -2,7 +2,7 @@
 ghost use Rattle.std.specs.Prelude.{◌≡◌, ◌+◌, ◌*◌, ◌≤◌, ◌<◌, length};
 ghost use Rattle.counting.specs.Bounds.{most_sites};
 ghost use Rattle.survey_check.specs.Bits.{SiteBits};
-ghost use Rattle.survey.specs.Town.{town};
+ghost use Rattle.survey.specs.Town.{town_of};
 ghost use Rattle.survey.specs.Refusals.{score_refusal, scores_refusal, weight_refusal, weights_refusal};
 ghost use Rattle.survey.specs.Refusals.{site_refusal, row_refusal, street_refusal, rows_refusal, held_refusal, survey_refusal};
 
@@ -137,7 +137,7 @@ pub fn rows_refusal(n: usize, m: usize, rows: &[u8]) -> u8
 fn held_refusal(n: usize, m: usize, scores: &[u16], weights: &[u8], rows: &[u8]) -> u8
     requires m_in_bounds { n * m ≤ length rows.now }
     requires m_le_most_sites { m ≤ most_sites }
-    ensures { result ≡ held_refusal (town n m scores weights rows) }
+    ensures { result ≡ held_refusal (town_of n m scores.now weights.now rows.now) }
 {
     let r = scores_refusal(scores);
     if r != 0 {
@@ -160,7 +160,7 @@ pub fn survey_refusal(
     weights: &[u8],
     rows: &[u8],
 ) -> u8
-    ensures { result ≡ survey_refusal (town n m scores weights rows) k own }
+    ensures { result ≡ survey_refusal (town_of n m scores.now weights.now rows.now) k own }
 {
     if n < 1 {
         return 1;

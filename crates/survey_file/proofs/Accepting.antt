@@ -9,7 +9,6 @@ use borrow.Author.Tests.{ltb-false}
 use Rattle.counting.specs.Words.{◌or_else◌, first_nonzero}
 use Rattle.counting.specs.Lists.{at}
 use Rattle.counting.proofs.Refusals.{or-zero, when-zero, exact, first-none}
-use Rattle.survey.specs.Town.{town}
 use Rattle.survey.specs.Refusals.{streets_refusal, sites_refusal, chosen_refusal, kind_refusal, scores_refusal}
 use Rattle.survey_file.specs.Encode.{town_mark, scores_mark, street_mark, end_mark}
 use Rattle.survey_file.specs.Decode.{word_at, mark_refusal, town_fields, scores_in, scores_fields, weights_record, list_in, street_fields, end_fields, past}

@@ -1,7 +1,6 @@
 // The table of a survey's scores by site, filled once from scores and rows: a row of n scores for each of the sites 0, 1, .., m.
 // It is for an engine that sums over the streets what they give a site, each by its weight: a site's scores stand side by side.
 ghost use Rattle.std.specs.Prelude.{◌≡◌, ◌+◌, length};
-ghost use Rattle.survey.specs.Town.{was};
 ghost use Rattle.survey.specs.Rows.{row_at, score_at, score_of};
 ghost use Rattle.survey.specs.Accepted.{SoundRow};
 ghost use Rattle.tables.specs.Entries.{Ranked, by_site, Room, Unread, Entered};
@@ -27,7 +26,7 @@ fn fill_street(n: usize, s: usize, scores: &[u16], row: &[u8], values: &mut [u16
 pub fn fill_values(n: usize, m: usize, scores: &[u16], rows: &[u8], values: &mut [u16])
     requires ranked { Ranked n m rows.now × (length scores.now ≡ m) }
     requires blank { Blank (m + 1) n values.old }
-    ensures { Tabled (λ a s. score_of (was scores) (row_at m (was rows) s) a) (m + 1) n values.new }
+    ensures { Tabled (λ a s. score_of scores.now (row_at m rows.now s) a) (m + 1) n values.new }
 {
     for s in 0..n {
         let low = s * m;

@@ -1,6 +1,6 @@
 // The table of a survey's values by street, filled once from scores, weights and rows: the values of the sites 0, 1, .., m for each street.
 ghost use Rattle.std.specs.Prelude.{◌≡◌, ◌+◌, ◌*◌, length};
-ghost use Rattle.survey.specs.Town.{town_of, town};
+ghost use Rattle.survey.specs.Town.{town_of};
 ghost use Rattle.survey.specs.Rows.{score_at, value};
 ghost use Rattle.survey.specs.Accepted.{SoundRow, Accepted};
 ghost use Rattle.tables.specs.Entries.{Room, Unread, Entered};
@@ -34,7 +34,7 @@ pub fn fill_values(
 )
     requires accepted { Accepted (town_of n m scores.now weights.now rows.now) }
     requires blank { Blank n (m + 1) values.old }
-    ensures { Tabled (value (town n m scores weights rows)) n (m + 1) values.new }
+    ensures { Tabled (value (town_of n m scores.now weights.now rows.now)) n (m + 1) values.new }
 {
     for s in 0..n {
         let low = s * m;

@@ -1,0 +1,7 @@
+use mathlib.Core.Path.{◌≡◌}
+use Prim.Native.Nat.{◌-◌, ◌≤◌}
+use Rattle.survey.specs.Rows.{shortest_of}
+use Rattle.floors.proofs.shortest.Given as goal
+
+abbrev pub invariant-loop-s : goal.invariant-loop-s
+invariant-loop-s l = (l.s ≤ l.n) × (l.least ≡ shortest_of l.s l.m l.rows)

@@ -1,0 +1,12 @@
+use mathlib.Core.Path.{◌≡◌}
+use Prim.Native.Nat.{◌≤◌, ◌-◌}
+use lib.ListN.{length, get_or}
+use mathlib.Core.Bool.{false}
+use Rattle.counting.specs.Buffers.{Mapped}
+use Rattle.survey.specs.Rows.{row_at, ranked_part}
+use Rattle.free_plan.specs.Greedy.{goes_to}
+use Rattle.free_results.proofs.serve.serve.Given as goal
+
+abbrev pub invariant-loop-s : goal.invariant-loop-s
+invariant-loop-s l = (l.s ≤ l.s-end) × (l.s-end ≡ length l.initial.division)
+    × Mapped (λ t x. goes_to (λ a. get_or l.flags a false) (ranked_part (row_at l.m l.rows t))) l.initial.division l.division l.s
