@@ -75,7 +75,7 @@ pub fn write(
     requires accepted { Accepted (town_of n m scores.now weights.now rows.now) }
     requires k_le_m { (k ≤ m) × (kind ≤ 1) }
     requires kind_in_bounds { length (encode (filed_of new_form (town_of n m scores.now weights.now rows.now) k kind)) ≤ length file.old }
-    ensures { is file ≡ file_written (filed_of new_form (town n m scores weights rows) k kind) (was file) }
+    ensures { file.new ≡ file_written (filed_of new_form (town n m scores weights rows) k kind) file.old }
 {
     let behind_town = records::write_town(new_form, n, m, k, kind, file, 0);
     let behind_scores = records::write_scores(m, scores, file, behind_town);
