@@ -42,7 +42,7 @@ pub fn converted_length(file: &[u8], n: usize, m: usize, new_form: bool, wanted:
 fn put_together(file: &[u8], m: usize, streets: usize, weights: &[u8], wanted: bool, out: &mut [u8])
     requires m_le_most_sites { (m ≤ most_sites) × (9 + 2 * m ≤ length file.now) × (streets ≤ length file.now) }
     requires streets_in_bounds { length (pieced wanted file.now m weights.now streets) ≤ length out.old }
-    ensures { is out ≡ laid (was out) 0 (pieced wanted (was file) m (was weights) streets) }
+    ensures { out.new ≡ laid out.old 0 (pieced wanted (was file) m (was weights) streets) }
 {
     let behind_mark = write_word(town_mark(wanted), out, 0);
     let end = 9 + 2 * m;
@@ -55,7 +55,7 @@ fn put_together(file: &[u8], m: usize, streets: usize, weights: &[u8], wanted: b
 pub fn convert(file: &[u8], n: usize, m: usize, new_form: bool, wanted: bool, out: &mut [u8])
     requires file_taken { FileTaken file.now n m new_form }
     requires file_in_bounds { length (converted wanted file.now) ≤ length out.old }
-    ensures { is out ≡ file_converted wanted (was file) (was out) }
+    ensures { out.new ≡ file_converted wanted (was file) out.old }
 {
     let streets = 9 + 2 * m + weights_size(n, new_form);
     if new_form {
