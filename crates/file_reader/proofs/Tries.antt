@@ -9,7 +9,7 @@ use native.Mathlib.Omega.{arith}
 use lib.Dec.{ltb, eqb}
 use lib.ListN.{get_or, take, drop}
 use borrow.Author.Tests.{lt-ltb, le-ltb, eq-eqb, ne_eqb}
-use Rattle.counting.specs.Words.{first_of}
+use Rattle.counting.specs.Words.{first_nonzero}
 use Rattle.counting.specs.Lists.{at}
 use Rattle.counting.specs.Flags.{Flags}
 use Rattle.counting.proofs.Refusals.{first-same}
@@ -56,10 +56,10 @@ module _ (x a b : ℕ) (is : x ≡ a) where
 pub ruleset reads = (above_from, within-from, below-from, least-from, same_from, other_from, below_both, least-both)
 
 -- ---- the first refusal of the scores, read one by one
-pub scores-read : (m : ℕ) (rest : List ℕ) → first_of m (score_field rest) ≡ scores_refusal (scores_in m rest)
+pub scores-read : (m : ℕ) (rest : List ℕ) → first_nonzero m (score_field rest) ≡ scores_refusal (scores_in m rest)
 scores-read m rest =
     first-same m (score_field rest) (score_refusal list) here
-    ∙ ap (λ (k : ℕ). first_of k (score_refusal list)) (sym (list_of-length m (score_in rest)))
+    ∙ ap (λ (k : ℕ). first_nonzero k (score_refusal list)) (sym (list_of-length m (score_in rest)))
   where
     list : List ℕ
     list = scores_in m rest

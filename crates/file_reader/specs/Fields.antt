@@ -2,7 +2,7 @@
 -- Assumes nothing.
 use Rattle.std.specs.Prelude.{ℕ, ◌+◌, ◌-◌, ◌*◌, Bool, ◌&&◌, List, ltb, length}
 use Rattle.counting.specs.Bounds.{top_score}
-use Rattle.counting.specs.Words.{◌when◌, ◌or_else◌, first_of, outside}
+use Rattle.counting.specs.Words.{◌when◌, ◌or_else◌, first_nonzero, outside}
 use Rattle.survey.specs.Refusals.{sites_refusal, chosen_refusal, kind_refusal}
 use Rattle.survey_file.specs.Decode.{word_at, byte_field}
 
@@ -26,4 +26,4 @@ site_field m again b = 10 when outside b 1 m or_else 11 when again
 
 -- a list, byte by byte
 abbrev pub list_field : ℕ → List ℕ → ℕ
-list_field m list = first_of (length list) (byte_field m list)
+list_field m list = first_nonzero (length list) (byte_field m list)

@@ -1,7 +1,7 @@
 // What is turned down in the fields of a record. Each function is given all bytes from the record's mark on, and gives the number that its
 // definition gives, 0 where there is nothing to refuse.
 ghost use Rattle.std.specs.Prelude.{◌≡◌, ◌+◌, ◌*◌, ◌≤◌, ◌<◌, length};
-ghost use Rattle.counting.specs.Words.{first_of};
+ghost use Rattle.counting.specs.Words.{first_nonzero};
 ghost use Rattle.survey_file.specs.Decode.{word_at, town_fields, scores_fields, weights_fields, street_fields, end_fields};
 ghost use Rattle.file_reader.specs.Fields.{sizes_field, score_field, site_field, list_field};
 
@@ -78,7 +78,7 @@ fn score_refusal(rest: &[u8], i: usize) -> u8
 // The m scores, in their order.
 fn table_refusal(rest: &[u8], m: usize) -> u8
     requires { 2 + 2 * m ≤ length rest.now }
-    ensures { result ≡ first_of m (score_field rest.now) }
+    ensures { result ≡ first_nonzero m (score_field rest.now) }
 {
     for i in 0..m {
         let r = score_refusal(rest, i);
