@@ -93,9 +93,9 @@ pub fn fill(
 )
     requires file_taken { FileTaken file.now n m new_form }
     requires rows_len { (length rows.old ≡ most_rows) × (length scores.old ≡ most_sites) × (length weights.old ≡ most_streets) }
-    ensures rows { is rows ≡ rows_read (was file) (was rows) }
-    ensures scores { is scores ≡ scores_read (was file) (was scores) }
-    ensures weights { is weights ≡ weights_read (was file) (was weights) }
+    ensures rows { rows.new ≡ rows_read (was file) rows.old }
+    ensures scores { scores.new ≡ scores_read (was file) scores.old }
+    ensures weights { weights.new ≡ weights_read (was file) weights.old }
 {
     fill_scores(file, m, scores);
     fill_weights(file, 11 + 2 * m, n, new_form, weights);
