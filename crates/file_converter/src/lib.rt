@@ -4,7 +4,7 @@
 ghost use Rattle.std.specs.Prelude.{◌≡◌, ◌+◌, ◌-◌, ◌*◌, ◌≤◌, length};
 ghost use Rattle.counting.specs.Bounds.{most_sites};
 ghost use Rattle.counting.specs.Buffers.{laid};
-ghost use Rattle.survey.specs.Town.{was, is};
+ghost use Rattle.survey.specs.Town.{was};
 ghost use Rattle.survey_file.specs.Filed.{form_refusal};
 ghost use Rattle.survey_file.specs.Decode.{town_in, FileTaken};
 ghost use Rattle.survey_file.specs.FileBuffers.{converted, file_converted};

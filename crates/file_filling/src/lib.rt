@@ -5,7 +5,7 @@ ghost use Rattle.std.specs.Prelude.{true, cond, ◌≡◌, ◌+◌, ◌*◌, ◌
 ghost use Rattle.counting.specs.Bounds.{most_streets, most_sites, most_rows};
 ghost use Rattle.counting.specs.Lists.{at};
 ghost use Rattle.counting.specs.Buffers.{Mapped};
-ghost use Rattle.survey.specs.Town.{was, is};
+ghost use Rattle.survey.specs.Town.{was};
 ghost use Rattle.survey_file.specs.Decode.{word_at, list_in, rows_in, FileTaken};
 ghost use Rattle.survey_file.specs.FileBuffers.{rows_read, scores_read, weights_read};
 

@@ -3,7 +3,7 @@
 
 ghost use Rattle.std.specs.Prelude.{◌≡◌, List, ℕ, ◌*◌, ◌≤◌, length};
 ghost use Rattle.counting.specs.Bounds.{most_streets, most_sites};
-ghost use Rattle.survey.specs.Town.{town_of, was, is, town};
+ghost use Rattle.survey.specs.Town.{town_of, was, town};
 ghost use Rattle.survey.specs.Accepted.{Accepted};
 ghost use Rattle.survey_file.specs.Filed.{filed_of, lost_refusal, losses_refusal, form_refusal};
 ghost use Rattle.survey_file.specs.Encode.{encode};
