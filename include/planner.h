@@ -2,7 +2,7 @@
  * Bring-site plans: streets, sites and shares. The planner's library for C and every language that can call C.
  *
  * COMPILE AND LINK, as C99 or C++11 or later, on 64-bit x86 Linux:
- *   cc -Iinclude town.c target/staticlib/libplanner_c.a      in a clone, after `rt staticlib planner_c`, which proves the archive
+ *   cc -Iinclude town.c target/staticlib/libplanner_c.a      in a clone, after `bindings/archive`, which proves the archive
  *   cc town.c $(pkg-config --cflags --libs planner)          after `bindings/install`, with the shared library
  *   cc town.c $(pkg-config --cflags planner) $(pkg-config --variable=archive planner)      the same, with the archive
  * A whole program to start from is bindings/c/plan_file.c.
