@@ -72,7 +72,7 @@ def turned(text):
         out.append(text[at:end])
         at = end
         while True:
-            c = re.compile(r"\s*(?://[^\n]*\n\s*)*(?:->\s*[^{;]*?)?\s*(requires\*?|ensures\*?)(?: \w+)? (?=\{)").match(text, at)
+            c = re.compile(r"\s*(?://[^\n]*\n\s*)*(?:->\s*[^{]*?)?\s*(requires\*?|ensures\*?)(?: \w+)? (?=\{)").match(text, at)
             if not c:
                 break
             end = match(text, c.end(), "{", "}")

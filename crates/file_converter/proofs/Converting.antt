@@ -5,15 +5,15 @@ use mathlib.Core.Bool.{Bool, true, false}
 use mathlib.Core.List.{List, [], ◌∷◌, ◌++◌, append_assoc}
 use Prim.Native.Nat.{ℕ, ◌+◌, ◌-◌, ◌*◌, ◌≤◌}
 use native.Mathlib.Omega.{arith}
-use lib.ListN.{length, take, drop, replicate, length-append, length-drop, length-replicate, replicate-append-replicate}
-use lib.Seq.{length-take-le, take_all, take_at, drop-drop}
+use lib.ListN.{length, take, drop, replicate, length-drop, length-replicate, replicate-append-replicate}
+use lib.Seq.{take_all, take_at, drop-drop}
 use Rattle.counting.specs.Bounds.{most_streets, most_sites}
 use Rattle.counting.specs.Lists.{at}
 use Rattle.counting.specs.Buffers.{Written}
 use Rattle.counting.proofs.Laying.{written_next}
 use Rattle.survey.specs.Accepted.{Accepted}
 use Rattle.survey_file.specs.Filed.{in_form}
-use Rattle.survey_file.specs.Encode.{town_mark, word, scores_bytes, weights_bytes, streets_bytes, encode, most_file}
+use Rattle.survey_file.specs.Encode.{town_mark, word, scores_bytes, weights_bytes, streets_bytes, encode}
 use Rattle.survey_file.specs.Decode.{weights_in, weights_size, form_in, streets_in, sites_in, chosen_in, kind_in, scores_part, weights_part, rows_in}
 use Rattle.survey_file.specs.Decode.{town_in, filed_in, FileTaken}
 use Rattle.survey_file.specs.FileBuffers.{converted}
@@ -22,7 +22,7 @@ use Rattle.survey_file.proofs.Bytes.{Bytes}
 use Rattle.survey_file.proofs.Accepting.{FileSays, file-says}
 use Rattle.survey_file.proofs.Fronts.{drop-bytes, town-front, scores-front}
 use Rattle.survey_file.proofs.Weights.{weights-whole}
-use Rattle.survey_file.proofs.Lengths.{encode-length, encode-most}
+use Rattle.survey_file.proofs.Lengths.{encode-length}
 use Rattle.survey_file.proofs.WrittenBack.{streets-written, encode-decode, town-accepted}
 use Rattle.file_converter.specs.Pieces.{pieced}
 
@@ -89,10 +89,6 @@ module _ (file : List ℕ) (n m : ℕ) (new_form : Bool) (taken : FileTaken file
       let own = sym (ap length (encode-decode file taken.ok bytes)) ∙ encode-length (filed_in file) fit in
       rw (taken.form, taken.streets) (omega (arith, own, encode-length (in_form wanted (filed_in file)) fit))
 
-  -- it is not long
-  pub converted-most : (wanted : Bool) → length (converted wanted file) ≤ most_file
-  converted-most wanted = encode-most (in_form wanted (filed_in file)) held
-
   -- ---- its weights
   -- in a new file they stand behind the mark of HW
   pub weights-new : new_form ≡ true → (size : ℕ) → size ≡ n → take size (drop (11 + 2 * m) file) ≡ (town_in file).weights
@@ -115,15 +111,6 @@ module _ (file : List ℕ) (m : ℕ) (weights : List ℕ) (streets : ℕ) (wante
   -- and those from the streets on
   streets-lent : take (length file - streets) (drop streets file) ≡ drop streets file
   streets-lent = take_all (length file - streets) (drop streets file) (omega (arith, length-drop streets file))
-
-  -- how long they are
-  pub pieced-length : 9 + 2 * m ≤ length file
-      → length (pieced wanted file m weights streets) ≡ 9 + 2 * m + length (weights_bytes wanted weights) + (length file - streets)
-  pieced-length there =
-      let head : List ℕ = take (7 + 2 * m) (drop 2 file) in
-      let each : List ℕ = weights_bytes wanted weights in
-      let size : length head ≡ 7 + 2 * m = length-take-le (7 + 2 * m) (drop 2 file) (omega (arith, length-drop 2 file)) in
-      omega (arith, length-append (head ++ each) (drop streets file), length-append head each, length-drop streets file)
 
   -- written one behind the other they are laid over the buffer
   pub pieces-written : {mark : ℕ} {before a b c after : List ℕ} {i j l next : ℕ} → mark ≡ town_mark wanted → Written before 0 (word mark) a i

@@ -9,7 +9,7 @@ use Prim.Native.Nat.{ℕ, ◌+◌, ◌-◌, ◌*◌, ◌≤◌, ◌<◌}
 use native.Mathlib.Nat.{mul-le-mul, zero-add}
 use native.Mathlib.Decide.{dec_lt}
 use native.Mathlib.Omega.{arith}
-use lib.ListN.{length, take, drop, replicate, length-take, length-append, length-drop, length-replicate, get_or-replicate, get_or-append}
+use lib.ListN.{length, take, drop, replicate, length-append, length-drop, length-replicate, get_or-replicate, get_or-append}
 use lib.Seq.{get_or-take, get_or-drop, get_or-append-add, drop-drop, ext_get_or}
 use Rattle.counting.specs.Bounds.{most_streets, most_sites, most_rows}
 use Rattle.counting.specs.Lists.{at}
@@ -207,11 +207,6 @@ module _ {file : List ℕ} {n m : ℕ} {new_form : Bool} (known : FileTaken file
     filling-next ys fits size right =
         rw known.sites (filling-more ys fits (omega (arith, known.sites)) (λ j u. right j (omega (arith, known.sites))))
 
-  -- every street
-  pub filling-done : {before now : List ℕ} {s from : ℕ} → n ≤ s → s ≤ n → Filling file before now s from
-      → Mapped (λ i x. at (rows_in file) i) before now (n * m)
-  filling-done {s = s} a b h = let e : s ≡ n = omega arith in rw (← e, known.sites) h.filled
-
   -- at the end the rows are laid over the buffer
   pub rows-laid : {before now : List ℕ} → length before ≡ most_rows → Mapped (λ i x. at (rows_in file) i) before now (n * m)
       → now ≡ rows_read file before
@@ -246,13 +241,6 @@ module _ {file : List ℕ} {n m : ℕ} {new_form : Bool} (known : FileTaken file
       mapped-laid list before now n (known.streets ∙ sym long) (omega (arith, (sizes file known.ok).0)) same
 
 -- ---- one row
--- a byte of a list behind an index, 0 behind the list's end
-pub entry-none : (list : List ℕ) (start size j : ℕ) → size ≤ j → 0 ≡ at (take size (drop start list)) j
-entry-none list start size j l = sym (at-past (take size (drop start list)) j (omega (arith, length-take size (drop start list))))
-
-pub entry-some : (list : List ℕ) (start size j : ℕ) → j < size → at list (start + j) ≡ at (take size (drop start list)) j
-entry-some list start size j l = sym (get_or-take size (drop start list) j 0 l ∙ get_or-drop start list j 0)
-
 -- the list of the record that begins at an index
 pub list_of : (file : List ℕ) (from j r : ℕ) → r ≡ at (take (at file (from + 4)) (drop (from + 5) file)) j → r ≡ at (list_in (drop from file)) j
 list_of file from j r e = rw (get_or-drop from file 4 0, drop-drop 5 from file) e

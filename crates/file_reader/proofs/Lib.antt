@@ -2,5 +2,3 @@ pub mod Tries
 pub mod Reading
 pub mod Walking
 pub mod Whole
-pub mod Carried
-pub mod ReaderCalls

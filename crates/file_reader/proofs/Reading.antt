@@ -1,17 +1,14 @@
 -- Laws of the answer of reading one record: which answer goes with which number, what the mark decides, and what an answer tells.
 -- Assumes nothing.
 use mathlib.Core.Path.{◌≡◌, refl, sym, ap, subst, ◌∙◌}
-use mathlib.Core.Bool.{Bool, true, false, not, cond}
+use mathlib.Core.Bool.{Bool, true, false, cond}
 use mathlib.Core.List.{List, [], ◌∷◌}
 use Prim.Native.Nat.{ℕ, zero, suc, ◌+◌, ◌*◌, ◌≤◌, ◌<◌}
 use native.Mathlib.Nat.{suc-ne-zero}
 use native.Mathlib.Omega.{arith}
-use lib.Dec.{T, ltb, eqb, lit<}
+use lib.Dec.{ltb, eqb, lit<}
 use lib.ListN.{length}
 use borrow.Author.Tests.{lt-ltb, le-ltb, eq-eqb, ne_eqb, ltb-false}
-use mir.Val.{has_key}
-use types.Run.{OneOf, miss}
-use denote.Enum.Declared.{tag_of}
 use Rattle.counting.specs.Words.{◌when◌, ◌unless◌}
 use Rattle.counting.specs.Lists.{at}
 use Rattle.counting.proofs.Refusals.{or-stop, or-pass, or-zero, refuse, skip, unless-yes, unless-none, when-zero}
@@ -22,8 +19,6 @@ use Rattle.file_reader.specs.declared.records.Due.TheVariants as due
 use Rattle.file_reader.specs.declared.records.Record.{Record}
 use Rattle.file_reader.specs.declared.records.Record.TheVariants as got
 use Rattle.file_reader.specs.Answers.{mark_of, fields_refusal, town_answer, street_answer, fields_of, record_unless, record_refusal, record_of, number_of}
-use Rattle.file_reader.specs.contracts.records.Due as due-type
-use Rattle.file_reader.specs.contracts.records.Record as record-type
 
 -- ---- the answer that goes with a number
 -- a number that is not 0 is refused by it
@@ -115,26 +110,33 @@ case_for mark =
     cond (eqb mark (town_mark false)) 0 (cond (eqb mark (town_mark true)) 0
     (cond (eqb mark scores_mark) 1 (cond (eqb mark weights_mark) 2 (cond (eqb mark street_mark) 3 4))))
 
+-- a record that is due has the case of a number
+abbrev pub Case : ℕ → Due → Type 0
+Case zero d = d ≡ due.Town
+Case (suc zero) d = (m : ℕ) × (d ≡ due.Scores m)
+Case (suc (suc zero)) d = (n : ℕ) × (d ≡ due.Weights n)
+Case (suc (suc (suc zero))) d = (m : ℕ) × ((number : ℕ) × (d ≡ due.Street m number))
+Case (suc (suc (suc (suc x)))) d = d ≡ due.End
+
 -- both marks of a town are for a town
-town-case : (new_form : Bool) → 0 ≡ case_for (town_mark new_form)
+town-case : (new_form : Bool) → Case (case_for (town_mark new_form)) due.Town
 town-case false = refl
 town-case true = refl
 
 -- it is the case of the record that the mark is due for
-case-is : (d : Due) (rest : List ℕ) → tag_of due-type.the_type d ≡ case_for (mark_of d rest)
+case-is : (d : Due) (rest : List ℕ) → Case (case_for (mark_of d rest)) d
 unfolding mark_of
 case-is due.Town rest = town-case (form_in rest)
-case-is (due.Scores m) rest = refl
-case-is (due.Weights n) rest = refl
-case-is (due.Street m number) rest = refl
+case-is (due.Scores m) rest = (m, refl)
+case-is (due.Weights n) rest = (n, refl)
+case-is (due.Street m number) rest = (m, (number, refl))
 case-is due.End rest = refl
 
 -- a mark of another record than the one that is due
-pub other-due : (d : Due) (rest : List ℕ) (cases : List ℕ) (mark known : ℕ) → OneOf cases (tag_of due-type.the_type d) → mark ≡ known
-    → T (not (has_key cases (case_for known))) → mark ≡ mark_of d rest → ⊥
-other-due d rest cases mark known h e none q =
-    let here : tag_of due-type.the_type d ≡ case_for known = case-is d rest ∙ ap case_for (sym q ∙ e) in
-    miss cases (case_for known) none (subst (λ (x : ℕ). OneOf cases x) here h)
+pub other-due : (d : Due) (rest : List ℕ) (mark known : ℕ) → mark ≡ known → (Case (case_for known) d → ⊥) → mark ≡ mark_of d rest → ⊥
+other-due d rest mark known e none q =
+    let same : mark_of d rest ≡ known = sym q ∙ e in
+    none (subst (λ (x : ℕ). Case (case_for x) d) same (case-is d rest))
 
 -- a mark of no record
 pub unknown-mark : (d : Due) (rest : List ℕ) (mark : ℕ) → (mark ≡ town_mark false → ⊥) → (mark ≡ town_mark true → ⊥) → (mark ≡ scores_mark → ⊥)
@@ -152,14 +154,14 @@ unknown-mark due.End rest mark old new s w l n e = n e
 
 -- ---- what an answer tells
 -- an answer that is no refusal has the number 0
-pub not-refused : (answer : Record) → OneOf (0 ∷ 1 ∷ 2 ∷ 3 ∷ 4 ∷ []) (tag_of record-type.the_type answer) → 0 ≡ number_of answer
+pub not-refused : (answer : Record) → ((x : ℕ) → answer ≡ got.Refused x → ⊥) → 0 ≡ number_of answer
 unfolding number_of
 not-refused (got.Town n m k kind new_form) h = refl
 not-refused got.Scores h = refl
 not-refused got.Weights h = refl
 not-refused (got.Street size) h = refl
 not-refused got.End h = refl
-not-refused (got.Refused x) h = absurd (miss (0 ∷ 1 ∷ 2 ∷ 3 ∷ 4 ∷ []) 5 tt h)
+not-refused (got.Refused x) h = absurd (h x refl)
 
 -- a refusal has its own number
 pub is-refused : (answer : Record) (x : ℕ) → answer ≡ got.Refused x → x ≡ number_of answer
@@ -188,22 +190,19 @@ module _ (d : Due) (rest : List ℕ) (answer : Record) (is : answer ≡ record_o
   unfolding record_of
   number_is r e = e ∙ ap number_of is ∙ number-unless (record_refusal d rest) (fields_of d rest) (fields-number d rest)
 
-  -- an answer of another case than the due record's is a refusal
-  pub some-refusal : (cases : List ℕ) → OneOf cases (tag_of record-type.the_type answer)
-      → T (not (has_key cases (tag_of record-type.the_type (fields_of d rest)))) → record_refusal d rest ≡ 0 → ⊥
+  -- an answer other than the due record's fields is a refusal
+  pub some-refusal : (answer ≡ fields_of d rest → ⊥) → record_refusal d rest ≡ 0 → ⊥
   unfolding record_of record_unless
-  some-refusal cases h none z =
-      let given : answer ≡ fields_of d rest = is ∙ ap (λ (x : ℕ). record_unless x (fields_of d rest)) z in
-      miss cases _ none (subst (λ (a : Record). OneOf cases (tag_of record-type.the_type a)) given h)
+  some-refusal other z = other (is ∙ ap (λ (x : ℕ). record_unless x (fields_of d rest)) z)
 
   -- an answer that is no refusal has the fields
-  pub no-refusal : T (not (has_key (5 ∷ []) (tag_of record-type.the_type answer))) → (record_refusal d rest ≡ 0) × (answer ≡ fields_of d rest)
+  pub no-refusal : ((x : ℕ) → answer ≡ got.Refused x → ⊥) → (record_refusal d rest ≡ 0) × (answer ≡ fields_of d rest)
   unfolding record_of record_unless
   no-refusal none = told (record_refusal d rest) is
     where
       told : (x : ℕ) → answer ≡ record_unless x (fields_of d rest) → (x ≡ 0) × (answer ≡ fields_of d rest)
       told zero e = (refl, e)
-      told (suc x) e = absurd (miss (5 ∷ []) (tag_of record-type.the_type answer) none (ap (tag_of record-type.the_type) e))
+      told (suc x) e = absurd (none (suc x) e)
 
 -- the numbers in an answer
 abbrev parts : Record → List ℕ

@@ -1,15 +1,13 @@
--- Laws of walking through the street records of a file: the rest of the file from an index on, one street more, and the end.
+-- Laws of walking through the street records of a file: one street more, and the end.
 -- Assumes nothing.
 use mathlib.Core.Path.{◌≡◌, refl, sym, ap, ◌∙◌}
-use mathlib.Core.List.{List, [], ◌∷◌}
-use Prim.Native.Nat.{ℕ, suc, ◌+◌, ◌-◌, ◌≤◌, ◌<◌}
+use mathlib.Core.List.{List}
+use Prim.Native.Nat.{ℕ, suc, ◌+◌, ◌≤◌, ◌<◌}
 use native.Mathlib.Nat.{le_antisymm}
 use native.Mathlib.Numerals.{add-one}
 use native.Mathlib.Omega.{arith}
-use lib.ListN.{length, take, drop, length-drop}
-use lib.Seq.{take_all, drop-drop}
-use types.Run.{OneOf}
-use denote.Enum.Declared.{tag_of}
+use lib.ListN.{length, drop, length-drop}
+use lib.Seq.{drop-drop}
 use Rattle.counting.specs.Words.{◌or_else◌, first_nonzero}
 use Rattle.counting.specs.Lists.{at}
 use Rattle.counting.proofs.Refusals.{or-stop, or-pass, or-zero, first_found, first_next}
@@ -20,11 +18,6 @@ use Rattle.file_reader.specs.declared.records.Record.{Record}
 use Rattle.file_reader.specs.declared.records.Record.TheVariants as got
 use Rattle.file_reader.specs.Answers.{mark_of, record_refusal, record_of, number_of}
 use Rattle.file_reader.proofs.Reading.{street-long, number_is, some-refusal, no-refusal, street-part}
-use Rattle.file_reader.specs.contracts.records.Record as record-type
-
--- the rest of a file from an index on, as it is lent
-pub rest-lent : (file : List ℕ) (i : ℕ) → take (length file - i) (drop i file) ≡ drop i file
-rest-lent file i = take_all (length file - i) (drop i file) (omega (arith, length-drop i file))
 
 -- what a street that was read tells: it is not refused, its list has the length, and the next record begins within the file
 pub street-taken : (file : List ℕ) (m number here size : ℕ) → got.Street size ≡ record_of (due.Street m number) (drop here file)
@@ -32,7 +25,7 @@ pub street-taken : (file : List ℕ) (m number here size : ℕ) → got.Street s
 unfolding mark_of
 street-taken file m number here size e =
     let rest : List ℕ = drop here file in
-    let (quiet, fields) = no-refusal (due.Street m number) rest (got.Street size) e tt in
+    let (quiet, fields) = no-refusal (due.Street m number) rest (got.Street size) e (λ x q. cc) in
     let part : size ≡ at rest 4 = street-part rest size fields in
     let long = street-long m number rest _ refl (or-zero (mark_refusal street_mark rest) (street_fields m number rest) quiet).1 in
     (quiet, part, omega (arith, part, length-drop here file))
@@ -65,11 +58,11 @@ module _ (file streets : List ℕ) (m here i : ℕ) (rest-is : drop here file �
 
   -- an answer that is no street ends the walk
   pub street-stops : (n r : ℕ) (answer : Record) → i < n → first_nonzero i (street_record m streets) ≡ 0
-      → answer ≡ record_of (due.Street m (i + 1)) (drop here file) → OneOf (0 ∷ 1 ∷ 2 ∷ 4 ∷ 5 ∷ []) (tag_of record-type.the_type answer) → r ≡ number_of answer
+      → answer ≡ record_of (due.Street m (i + 1)) (drop here file) → ((size : ℕ) → answer ≡ got.Street size → ⊥) → r ≡ number_of answer
       → r ≡ streets_and_end n m streets
   street-stops n r answer l quiet is other e =
       let number = number_is (due.Street m (i + 1)) (drop here file) answer is r e in
-      let some : r ≡ 0 → ⊥ = λ z. some-refusal (due.Street m (i + 1)) (drop here file) answer is (0 ∷ 1 ∷ 2 ∷ 4 ∷ 5 ∷ []) other tt (sym number ∙ z) in
+      let some : r ≡ 0 → ⊥ = λ z. some-refusal (due.Street m (i + 1)) (drop here file) answer is (other _) (sym number ∙ z) in
       or-stop r (first_nonzero n (street_record m streets)) (mark_refusal end_mark (past streets n) or_else end_fields (past streets n))
       (first_found i n (street_record m streets) r l quiet (street-is r number) some) some
 

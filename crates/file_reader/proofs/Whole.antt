@@ -2,21 +2,18 @@
 -- there behind it.
 -- Assumes nothing.
 use mathlib.Core.Path.{◌≡◌, refl, sym, ap, ◌∙◌}
-use mathlib.Core.Bool.{Bool, true, false, not}
-use mathlib.Core.List.{List, [], ◌∷◌}
+use mathlib.Core.Bool.{Bool, true, false}
+use mathlib.Core.List.{List}
 use Prim.Native.Nat.{ℕ, zero, suc, ◌+◌, ◌*◌, ◌≤◌}
 use native.Mathlib.Nat.{suc-ne-zero}
 use native.Mathlib.Omega.{arith}
 use lib.ListN.{length, drop, length-drop}
 use lib.Seq.{drop-drop}
-use types.Run.{OneOf, miss}
-use denote.Enum.Declared.{tag_of}
 use Rattle.counting.specs.Words.{◌or_else◌}
 use Rattle.counting.proofs.Refusals.{or-stop, or-pass, or-zero}
 use Rattle.survey_file.specs.Encode.{town_mark, scores_mark, weights_mark}
 use Rattle.survey_file.specs.Decode.{mark_refusal, town_fields, scores_fields, weights_fields, weights_size, form_in, streets_in, sites_in}
 use Rattle.survey_file.specs.Decode.{weights_part, streets_part, file_refusal}
-use Rattle.survey_file.proofs.Weights.{new-from, old-from}
 use Rattle.file_reader.specs.declared.records.Due.TheVariants as due
 use Rattle.file_reader.specs.declared.records.Record.{Record}
 use Rattle.file_reader.specs.declared.records.Record.TheVariants as got
@@ -25,7 +22,6 @@ use Rattle.file_reader.specs.declared.Checked.TheVariants.{Sizes, Refused}
 use Rattle.file_reader.specs.Answers.{mark_of, record_refusal, record_of, number_of}
 use Rattle.file_reader.specs.Checks.{checked_number, checked_unless, refused_by, streets_checked, weights_checked, scores_checked, sizes_in, checked_file}
 use Rattle.file_reader.proofs.Reading.{town-long, scores-long, weights-long, number_is, some-refusal, no-refusal, town-parts}
-use Rattle.file_reader.specs.contracts.records.Record as record-type
 
 -- ---- the answer that goes with a number
 -- a number that is not 0 is refused by it
@@ -47,34 +43,25 @@ check-number zero sizes z = z
 check-number (suc x) sizes z = refl
 
 -- ---- the town, out of all bytes from its mark on
--- an answer that is a town has its fields
-pub as-town : (answer : Record) → OneOf (0 ∷ []) (tag_of record-type.the_type answer)
-    → (n : ℕ) × (m : ℕ) × (k : ℕ) × (kind : ℕ) × (new_form : Bool) × (answer ≡ got.Town n m k kind new_form)
-as-town (got.Town n m k kind new_form) h = (n, m, k, kind, new_form, refl)
-as-town got.Scores h = absurd (miss (0 ∷ []) 1 tt h)
-as-town got.Weights h = absurd (miss (0 ∷ []) 2 tt h)
-as-town (got.Street size) h = absurd (miss (0 ∷ []) 3 tt h)
-as-town got.End h = absurd (miss (0 ∷ []) 4 tt h)
-as-town (got.Refused x) h = absurd (miss (0 ∷ []) 5 tt h)
-
 module _ (rest : List ℕ) where
   -- the town's tries
   abbrev town-tries : ℕ
   town-tries = mark_refusal (town_mark (form_in rest)) rest or_else town_fields rest
 
   -- one that is no town ends the reading
-  pub town-stops : (answer : Record) → answer ≡ record_of due.Town rest → OneOf (1 ∷ 2 ∷ 3 ∷ 4 ∷ 5 ∷ []) (tag_of record-type.the_type answer)
+  pub town-stops : (answer : Record) → answer ≡ record_of due.Town rest
+      → ((n m k kind : ℕ) (new_form : Bool) → answer ≡ got.Town n m k kind new_form → ⊥)
       → refused_by answer ≡ checked_file rest
   unfolding mark_of file_refusal
   town-stops answer is other =
       let number = number_is due.Town rest answer is (number_of answer) refl in
-      let some : number_of answer ≡ 0 → ⊥ = λ z. some-refusal due.Town rest answer is (1 ∷ 2 ∷ 3 ∷ 4 ∷ 5 ∷ []) other tt (sym number ∙ z) in
+      let some : number_of answer ≡ 0 → ⊥ = λ z. some-refusal due.Town rest answer is (other _ _ _ _ _) (sym number ∙ z) in
       check-refused (number_of answer) (file_refusal rest) (sizes_in rest) (or-stop (number_of answer) town-tries _ number some) some
 
   module _ {n m k kind : ℕ} {new_form : Bool} (town : got.Town n m k kind new_form ≡ record_of due.Town rest) where
     -- a town that was read is not refused
     quiet : record_refusal due.Town rest ≡ 0
-    quiet = (no-refusal due.Town rest (got.Town n m k kind new_form) town tt).0
+    quiet = (no-refusal due.Town rest (got.Town n m k kind new_form) town (λ x q. cc)).0
 
     -- behind it there is a place for the scores
     pub town-there : 7 ≤ length rest
@@ -85,7 +72,7 @@ module _ (rest : List ℕ) where
     pub town-passes : scores_checked n m k kind new_form (drop 7 rest) ≡ checked_file rest
     unfolding mark_of file_refusal
     town-passes =
-        let (streets, sites, chosen, of-kind, form) = town-parts rest n m k kind new_form (no-refusal due.Town rest (got.Town n m k kind new_form) town tt).1 in
+        let (streets, sites, chosen, of-kind, form) = town-parts rest n m k kind new_form (no-refusal due.Town rest (got.Town n m k kind new_form) town (λ x q. cc)).1 in
         let start : 7 + (2 + 2 * sites_in rest) ≡ 9 + 2 * sites_in rest = omega arith in
         let weights : drop (2 + 2 * sites_in rest) (drop 7 rest) ≡ weights_part rest
         = drop-drop (2 + 2 * sites_in rest) 7 rest ∙ ap (λ (x : ℕ). drop x rest) start
@@ -99,19 +86,19 @@ module _ (rest : List ℕ) where
 -- ---- the scores, out of all bytes from their mark on
 module _ (n m k kind : ℕ) (new_form : Bool) (rest : List ℕ) where
   -- an answer that is no table of scores ends the reading
-  pub scores-stop : (answer : Record) → answer ≡ record_of (due.Scores m) rest → OneOf (0 ∷ 2 ∷ 3 ∷ 4 ∷ 5 ∷ []) (tag_of record-type.the_type answer)
+  pub scores-stop : (answer : Record) → answer ≡ record_of (due.Scores m) rest → (answer ≡ got.Scores → ⊥)
       → refused_by answer ≡ scores_checked n m k kind new_form rest
   unfolding mark_of
   scores-stop answer is other =
       let number = number_is (due.Scores m) rest answer is (number_of answer) refl in
-      let some : number_of answer ≡ 0 → ⊥ = λ z. some-refusal (due.Scores m) rest answer is (0 ∷ 2 ∷ 3 ∷ 4 ∷ 5 ∷ []) other tt (sym number ∙ z) in
+      let some : number_of answer ≡ 0 → ⊥ = λ z. some-refusal (due.Scores m) rest answer is other (sym number ∙ z) in
       check-refused (number_of answer) _ (Sizes n m k kind new_form)
       (or-stop (number_of answer) (mark_refusal scores_mark rest or_else scores_fields m rest) _ number some) some
 
   module _ (scores : got.Scores ≡ record_of (due.Scores m) rest) where
     -- scores that were read are not refused
     quiet-scores : record_refusal (due.Scores m) rest ≡ 0
-    quiet-scores = (no-refusal (due.Scores m) rest got.Scores scores tt).0
+    quiet-scores = (no-refusal (due.Scores m) rest got.Scores scores (λ x q. cc)).0
 
     -- behind them there is a place for the weights and the streets
     pub scores-there : 2 + 2 * m ≤ length rest
@@ -125,21 +112,11 @@ module _ (n m k kind : ℕ) (new_form : Bool) (rest : List ℕ) where
         ap (λ (x : ℕ). checked_unless x (Sizes n m k kind new_form))
         (or-pass _ 0 (mark_refusal scores_mark rest or_else scores_fields m rest) _ (sym quiet-scores) refl refl)
 
--- an answer that is a table of scores
-pub as-scores : (answer : Record) → OneOf (1 ∷ []) (tag_of record-type.the_type answer) → answer ≡ got.Scores
-as-scores (got.Town n m k kind new_form) h = absurd (miss (1 ∷ []) 0 tt h)
-as-scores got.Scores h = refl
-as-scores got.Weights h = absurd (miss (1 ∷ []) 2 tt h)
-as-scores (got.Street size) h = absurd (miss (1 ∷ []) 3 tt h)
-as-scores got.End h = absurd (miss (1 ∷ []) 4 tt h)
-as-scores (got.Refused x) h = absurd (miss (1 ∷ []) 5 tt h)
-
 -- ---- the weights, out of all bytes from their mark on
 -- an old file has none
-pub old-passes : (n m k kind : ℕ) (new_form : Bool) (rest : List ℕ) (answer : Checked) → not new_form ≡ true
+pub old-passes : (n m k kind : ℕ) (new_form : Bool) (rest : List ℕ) (answer : Checked) → new_form ≡ false
     → answer ≡ streets_checked n m k kind new_form rest → answer ≡ weights_checked n m k kind new_form rest
-old-passes n m k kind new_form rest answer h e =
-    let old : new_form ≡ false = old-from new_form h in
+old-passes n m k kind new_form rest answer old e =
     e ∙ rw old (ap (λ (x : ℕ). checked_unless x (Sizes n m k kind false)) (or-pass _ 0 0 _ refl refl refl))
 
 module _ (n m k kind : ℕ) (new_form : Bool) (new : new_form ≡ true) (rest : List ℕ) where
@@ -148,18 +125,18 @@ module _ (n m k kind : ℕ) (new_form : Bool) (new : new_form ≡ true) (rest : 
   weights-tries = mark_refusal weights_mark rest or_else weights_fields n rest
 
   -- an answer that is no record of weights ends the reading
-  pub weights-stop : (answer : Record) → answer ≡ record_of (due.Weights n) rest → OneOf (0 ∷ 1 ∷ 3 ∷ 4 ∷ 5 ∷ []) (tag_of record-type.the_type answer)
+  pub weights-stop : (answer : Record) → answer ≡ record_of (due.Weights n) rest → (answer ≡ got.Weights → ⊥)
       → refused_by answer ≡ weights_checked n m k kind new_form rest
   unfolding mark_of
   weights-stop answer is other =
       let number = number_is (due.Weights n) rest answer is (number_of answer) refl in
-      let some : number_of answer ≡ 0 → ⊥ = λ z. some-refusal (due.Weights n) rest answer is (0 ∷ 1 ∷ 3 ∷ 4 ∷ 5 ∷ []) other tt (sym number ∙ z) in
+      let some : number_of answer ≡ 0 → ⊥ = λ z. some-refusal (due.Weights n) rest answer is other (sym number ∙ z) in
       rw new (check-refused (number_of answer) _ (Sizes n m k kind true) (or-stop (number_of answer) weights-tries _ number some) some)
 
   module _ (weights : got.Weights ≡ record_of (due.Weights n) rest) where
     -- weights that were read are not refused
     quiet-weights : record_refusal (due.Weights n) rest ≡ 0
-    quiet-weights = (no-refusal (due.Weights n) rest got.Weights weights tt).0
+    quiet-weights = (no-refusal (due.Weights n) rest got.Weights weights (λ x q. cc)).0
 
     -- behind them there is a place for the streets
     pub weights-there : 2 + n ≤ length rest
@@ -196,11 +173,10 @@ module _ (file : List ℕ) (count : ℕ) (within : count ≤ length file) (n m k
   )
 
   -- past the weights of a new file
-  pub past-weights : not new_form ≡ false → got.Weights ≡ record_of (due.Weights n) (drop count file)
+  pub past-weights : new_form ≡ true → got.Weights ≡ record_of (due.Weights n) (drop count file)
       → (count + 2 + n ≤ length file)
       × (streets_checked n m k kind new_form (drop (count + 2 + n) file) ≡ weights_checked n m k kind new_form (drop count file))
-  past-weights h weights =
-      let new : new_form ≡ true = new-from new_form h in
+  past-weights new weights =
       let room : count + (2 + n) ≤ length file = on (2 + n) (weights-there n m k kind new_form new (drop count file) weights) in
       let place : count + (2 + n) ≡ count + 2 + n = omega arith in (
         omega arith,

@@ -9,7 +9,7 @@ use crate::records::{Due, Record};
 use crate::{Checked, records};
 
 // The lent file, and how many of its bytes are read.
-#[derive(Drop)]
+#[derive(Clone, Copy)]
 pub struct Reader<'a> {
     pub file: &'a [u8],
     pub count: usize,

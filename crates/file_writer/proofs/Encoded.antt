@@ -1,7 +1,7 @@
 -- The parts of a file: how long each of them is, what the loops over a list and over the streets have written, and the file made of them.
 -- Assumes nothing.
 use mathlib.Core.Path.{◌≡◌, refl, sym, ap, ◌∙◌}
-use mathlib.Core.Bool.{Bool, true, false, not}
+use mathlib.Core.Bool.{Bool, true, false}
 use mathlib.Core.List.{List, [], ◌++◌}
 use Prim.Native.Nat.{ℕ, ◌+◌, ◌*◌, ◌≤◌}
 use native.Mathlib.Nat.{le_antisymm}
@@ -20,7 +20,7 @@ use Rattle.survey_file.specs.Decode.{weights_size}
 use Rattle.survey_file.specs.FileBuffers.{file_written}
 use Rattle.survey.proofs.Lists.{ranked-length}
 use Rattle.survey_file.proofs.Joined.{joined-even}
-use Rattle.survey_file.proofs.Weights.{new-from, old-from, weights-length}
+use Rattle.survey_file.proofs.Weights.{weights-length}
 
 -- ---- lengths
 -- the length of the record SC
@@ -103,11 +103,11 @@ encode-written f town table weights streets mark = (written_next (written_next (
 
 -- ---- what HW is made of, by the form
 -- an old file has none
-pub none_written : (new_form : Bool) (weights before : List ℕ) (i : ℕ) → not new_form ≡ true → i ≤ length before
+pub none_written : (new_form : Bool) (weights before : List ℕ) (i : ℕ) → new_form ≡ false → i ≤ length before
     → Written before i (weights_bytes new_form weights) before i
 unfolding joined
-none_written new_form weights before i h room = let old : new_form ≡ false = old-from new_form h in rw old (turns-none before i (λ j. []) room)
+none_written new_form weights before i old room = rw old (turns-none before i (λ j. []) room)
 
 -- in a new one it is the mark and the weights
-pub new-weights : (new_form : Bool) (weights : List ℕ) → not new_form ≡ false → word weights_mark ++ weights ≡ weights_bytes new_form weights
-new-weights new_form weights h = ap (λ (b : Bool). weights_bytes b weights) (sym (new-from new_form h))
+pub new-weights : (new_form : Bool) (weights : List ℕ) → new_form ≡ true → word weights_mark ++ weights ≡ weights_bytes new_form weights
+new-weights new_form weights h = ap (λ (b : Bool). weights_bytes b weights) (sym h)

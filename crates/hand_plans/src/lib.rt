@@ -21,7 +21,7 @@ use survey_check::check;
 
 // How many streets each site has, and how many have none, in one pass over the division.
 fn count_streets(division: &[u8]) -> [usize; 256]
-    ensures { Summed (λ s. 1) result (was division) }
+    ensures { Summed (λ s. 1) result division.now }
 {
     let mut counts = [0usize; 256];
     for s in 0..division.len() {

@@ -49,7 +49,7 @@ pub fn loads_refusal(
 // Each site's sum, and at 0 what is brought by streets without a site, in one pass over the streets.
 fn sum_sites(division: &[u8], loads: &[u32]) -> [u32; 256]
     requires { (length loads.now ≡ length division.now) × (length division.now ≤ most_streets) × (above_refusal loads.now ≡ 0) }
-    ensures { Summed (at (was loads)) result (was division) }
+    ensures { Summed (at loads.now) result division.now }
 {
     let mut sums = [0u32; 256];
     for s in 0..division.len() {

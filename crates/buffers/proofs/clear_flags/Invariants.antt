@@ -1,5 +1,4 @@
 use mathlib.Core.Bool.{false}
-use Prim.Native.Nat.{◌-◌}
 use lib.ListN.{length, replicate}
 use Rattle.buffers.proofs.Copying.{Copying}
 use Rattle.buffers.proofs.clear_flags.Given as goal

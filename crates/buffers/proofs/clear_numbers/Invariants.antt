@@ -1,4 +1,3 @@
-use Prim.Native.Nat.{◌-◌}
 use lib.ListN.{length, replicate}
 use Rattle.buffers.proofs.Copying.{Copying}
 use Rattle.buffers.proofs.clear_numbers.Given as goal

@@ -1,4 +1,3 @@
-use Prim.Native.Nat.{◌-◌}
 use Rattle.buffers.proofs.Copying.{Copying}
 use Rattle.buffers.proofs.copy_numbers.Given as goal
 

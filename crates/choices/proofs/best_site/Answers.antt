@@ -1,9 +1,7 @@
 use borrow.Author.Rules.{rules}
 use mathlib.Core.Path.{refl}
-use Prim.Native.Nat.{◌-◌}
 use native.Mathlib.Omega.{arith}
 use Rattle.counting.specs.Lists.{at}
-use Rattle.counting.specs.Greatest.{worth_or_none}
 use Rattle.choices.proofs.Scanned.{better-turn, worth-or-none-is, flags-start, flags-end}
 use Rattle.choices.proofs.best_site.Goals as goal
 

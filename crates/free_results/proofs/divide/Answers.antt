@@ -3,8 +3,8 @@ use Rattle.free_results.proofs.divide.Goals as goal
 
 pub total_of-requires : goal.total_of-requires
 total_of-requires c =
-    let p = c.requires in
-    total-ready p.accepted.0 c.planned-state.ensures.held
+    let ready = total-ready c.requires.accepted.0 c.planned-state.ensures.held in
+    record { bests_len = ready.0; weighed = ready.1 }
 
 pub returns : goal.returns
 returns c =

@@ -3,8 +3,8 @@ use Rattle.free_results.proofs.list_total.Goals as goal
 
 pub total_of-requires : goal.total_of-requires
 total_of-requires c =
-    let p = c.requires in
-    total-ready p.0 c.planned.ensures.held
+    let ready = total-ready c.requires.0 c.planned.ensures.held in
+    record { bests_len = ready.0; weighed = ready.1 }
 
 pub returns : goal.returns
 returns c =

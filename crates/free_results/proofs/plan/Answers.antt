@@ -5,7 +5,9 @@ use Rattle.free_results.proofs.Results.{total-ready, total-found, served, copied
 use Rattle.free_results.proofs.plan.Goals as goal
 
 pub total_of-requires : goal.total_of-requires
-total_of-requires c = total-ready c.requires.accepted.0 c.planned-state.ensures.held
+total_of-requires c =
+    let ready = total-ready c.requires.accepted.0 c.planned-state.ensures.held in
+    record { bests_len = ready.0; weighed = ready.1 }
 
 pub returns : goal.returns
 returns c =

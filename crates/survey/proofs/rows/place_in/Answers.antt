@@ -1,4 +1,3 @@
-use Prim.Native.Nat.{◌-◌}
 use Rattle.counting.proofs.Refusals.{scan}
 use Rattle.survey.proofs.rows.place_in.Goals as goal
 

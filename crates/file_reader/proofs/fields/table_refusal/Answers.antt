@@ -1,0 +1,11 @@
+use Rattle.counting.proofs.Refusals.{loop}
+use Rattle.file_reader.proofs.fields.table_refusal.Goals as goal
+
+pub loop-i-init : goal.loop-i-init
+loop-i-init c = search loop
+
+pub returns-then-r-ne0 : goal.returns-then-r-ne0
+returns-then-r-ne0 c = search loop
+
+pub loop-i-preserved : goal.loop-i-preserved
+loop-i-preserved c = search loop

@@ -1,0 +1,13 @@
+use mathlib.Core.Path.{◌≡◌}
+use Prim.Native.Nat.{◌≤◌}
+use lib.ListN.{length}
+use Rattle.counting.specs.Lists.{at, cell}
+use Rattle.queues.specs.Limits.{Leaver}
+use Rattle.queues.proofs.LeaveLimits.{Falling}
+use Rattle.queues.proofs.limits.lower.Given as goal
+
+abbrev pub invariant-loop-e : goal.invariant-loop-e
+invariant-loop-e l = (l.limits ≡ l.initial.limits) × (l.e ≤ length l.division) × Falling (Leaver (cell l.values (length l.shares)) (at l.prices) l.shares l.division) l.s l.division l.initial.limits l.x l.e
+
+abbrev pub decreases-loop-e : goal.decreases-loop-e
+decreases-loop-e l = l.e
