@@ -1,15 +1,16 @@
 // Cases of lists, divisions, plans and floors.
 use crate::{input, say};
 use planner::Answer;
+use std::io::{self, Read, Write};
 
 // Command 4: the streets, the sites; the scores; the rows; the list of sites.
-pub fn list_case(weighed: bool) {
-    let n = input::number();
-    let m = input::number();
-    let s = input::scores_list();
-    let w = input::weights_of(weighed, n);
-    let r = input::bytes_list();
-    let l = input::bytes_list();
+pub fn list_case(reader: &mut impl Read, out: &mut impl Write, weighed: bool) -> io::Result<()> {
+    let n = input::number(reader)?;
+    let m = input::number(reader)?;
+    let s = input::scores_list(reader)?;
+    let w = input::weights_of(reader, weighed, n)?;
+    let r = input::bytes_list(reader)?;
+    let l = input::bytes_list(reader)?;
     let scores = s.buffer;
     let s_len = s.len;
     let weights = w.buffer;
@@ -18,14 +19,17 @@ pub fn list_case(weighed: bool) {
     let r_len = r.len;
     let sites = l.buffer;
     let l_len = l.len;
-    say::answer(planner::list_total(
-        n,
-        m,
-        &scores[..s_len],
-        &weights[..w_len],
-        &rows[..r_len],
-        &sites[..l_len],
-    ));
+    say::answer(
+        out,
+        planner::list_total(
+            n,
+            m,
+            &scores[..s_len],
+            &weights[..w_len],
+            &rows[..r_len],
+            &sites[..l_len],
+        ),
+    )
 }
 
 // A division, balanced or free.
@@ -47,6 +51,7 @@ fn division_of(
 
 // A division, and its buffer.
 fn divided(
+    out: &mut impl Write,
     balanced: bool,
     n: usize,
     m: usize,
@@ -55,20 +60,28 @@ fn divided(
     rows: &[u8],
     sites: &[u8],
     division: &mut [u8],
-) {
-    say::answer(division_of(balanced, n, m, scores, weights, rows, sites, division));
-    say::buffer(b" division", division);
+) -> io::Result<()> {
+    say::answer(
+        out,
+        division_of(balanced, n, m, scores, weights, rows, sites, division),
+    )?;
+    say::buffer(out, b" division", division)
 }
 
 // Commands 5, free, and 7, balanced: the streets, the sites; the scores; the rows; the list of sites; the division's buffer.
-pub fn division_case(balanced: bool, weighed: bool) {
-    let n = input::number();
-    let m = input::number();
-    let s = input::scores_list();
-    let w = input::weights_of(weighed, n);
-    let r = input::bytes_list();
-    let l = input::bytes_list();
-    let d = input::bytes_list();
+pub fn division_case(
+    reader: &mut impl Read,
+    out: &mut impl Write,
+    balanced: bool,
+    weighed: bool,
+) -> io::Result<()> {
+    let n = input::number(reader)?;
+    let m = input::number(reader)?;
+    let s = input::scores_list(reader)?;
+    let w = input::weights_of(reader, weighed, n)?;
+    let r = input::bytes_list(reader)?;
+    let l = input::bytes_list(reader)?;
+    let d = input::bytes_list(reader)?;
     let scores = s.buffer;
     let s_len = s.len;
     let weights = w.buffer;
@@ -80,6 +93,7 @@ pub fn division_case(balanced: bool, weighed: bool) {
     let mut division = d.buffer;
     let d_len = d.len;
     divided(
+        out,
         balanced,
         n,
         m,
@@ -88,11 +102,12 @@ pub fn division_case(balanced: bool, weighed: bool) {
         &rows[..r_len],
         &sites[..l_len],
         &mut division[..d_len],
-    );
+    )
 }
 
 // A plan, and its buffers.
 fn planned(
+    out: &mut impl Write,
     n: usize,
     m: usize,
     k: usize,
@@ -102,23 +117,31 @@ fn planned(
     rows: &[u8],
     division: &mut [u8],
     chosen: &mut [u8],
-) {
-    say::answer(planner::plan(n, m, k, kind, scores, weights, rows, division, chosen));
-    say::buffer(b" division", division);
-    say::buffer(b" chosen", chosen);
+) -> io::Result<()> {
+    say::answer(
+        out,
+        planner::plan(n, m, k, kind, scores, weights, rows, division, chosen),
+    )?;
+    say::buffer(out, b" division", division)?;
+    say::buffer(out, b" chosen", chosen)
 }
 
 // Commands 6, free, and 8, balanced: the streets, the sites, the chosen; the scores; the rows; the buffers of the division and of the chosen
 // sites. Command 16 is the same with the kind before them.
-pub fn plan_case(kind: usize, weighed: bool) {
-    let n = input::number();
-    let m = input::number();
-    let k = input::number();
-    let s = input::scores_list();
-    let w = input::weights_of(weighed, n);
-    let r = input::bytes_list();
-    let d = input::bytes_list();
-    let c = input::bytes_list();
+pub fn plan_case(
+    reader: &mut impl Read,
+    out: &mut impl Write,
+    kind: usize,
+    weighed: bool,
+) -> io::Result<()> {
+    let n = input::number(reader)?;
+    let m = input::number(reader)?;
+    let k = input::number(reader)?;
+    let s = input::scores_list(reader)?;
+    let w = input::weights_of(reader, weighed, n)?;
+    let r = input::bytes_list(reader)?;
+    let d = input::bytes_list(reader)?;
+    let c = input::bytes_list(reader)?;
     let scores = s.buffer;
     let s_len = s.len;
     let weights = w.buffer;
@@ -130,6 +153,7 @@ pub fn plan_case(kind: usize, weighed: bool) {
     let mut chosen = c.buffer;
     let c_len = c.len;
     planned(
+        out,
         n,
         m,
         k,
@@ -139,22 +163,25 @@ pub fn plan_case(kind: usize, weighed: bool) {
         &rows[..r_len],
         &mut division[..d_len],
         &mut chosen[..c_len],
-    );
+    )
 }
 
 // Command 9: the streets, the sites, the chosen; the scores; the rows.
-pub fn floor_case(weighed: bool) {
-    let n = input::number();
-    let m = input::number();
-    let k = input::number();
-    let s = input::scores_list();
-    let w = input::weights_of(weighed, n);
-    let r = input::bytes_list();
+pub fn floor_case(reader: &mut impl Read, out: &mut impl Write, weighed: bool) -> io::Result<()> {
+    let n = input::number(reader)?;
+    let m = input::number(reader)?;
+    let k = input::number(reader)?;
+    let s = input::scores_list(reader)?;
+    let w = input::weights_of(reader, weighed, n)?;
+    let r = input::bytes_list(reader)?;
     let scores = s.buffer;
     let s_len = s.len;
     let weights = w.buffer;
     let w_len = w.len;
     let rows = r.buffer;
     let r_len = r.len;
-    say::answer(planner::floor(n, m, k, &scores[..s_len], &weights[..w_len], &rows[..r_len]));
+    say::answer(
+        out,
+        planner::floor(n, m, k, &scores[..s_len], &weights[..w_len], &rows[..r_len]),
+    )
 }

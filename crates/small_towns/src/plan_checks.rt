@@ -3,11 +3,12 @@ ghost use Rattle.std.specs.Prelude.{◌≤◌};
 ghost use Rattle.drawn_towns.specs.Small.{Small};
 
 use crate::answers::Given;
-use crate::loads::NUMBERS;
+use crate::load_checks::NUMBERS;
 use crate::{answers, balanced, entries, free, hands};
 use drawn_towns::asked::Asked;
 use drawn_towns::{Town, asked, weights};
 use plain_search::{rounds, sets};
+use std::io::{self, Write};
 
 // The plan that is right for a town.
 fn right_plan(town: Town, asked: Asked) -> Given
@@ -53,19 +54,20 @@ fn keeps_sites(town: Town, kind: usize, plan: Given) -> bool
 
 // How many answers about the plan of one kind, and about hand plans made from it, are wrong.
 pub fn wrong_plans(
+    out: &mut impl Write,
     seed: &mut u64,
     numbers: &mut [u64; NUMBERS],
     town: Town,
     kind: usize,
     shown: bool,
-) -> u64
+) -> io::Result<u64>
     requires { Small town }
-    ensures { result ≤ 25 }
+    ensures { IfOk result (λ x. x ≤ 25) }
 {
     let asked = asked::of_kind(town, kind);
     let plan = entries::plan(town, asked);
-    let mut count = answers::wrong(town, plan, right_plan(town, asked), shown);
-    count = count + answers::fails(town, keeps_bound(town, kind, plan.total), shown);
-    count = count + answers::fails(town, keeps_sites(town, kind, plan), shown);
-    count + hands::wrong_hands(seed, numbers, town, asked, plan, shown)
+    let mut count = answers::wrong(out, town, plan, right_plan(town, asked), shown)?;
+    count = count + answers::fails(out, town, keeps_bound(town, kind, plan.total), shown)?;
+    count = count + answers::fails(out, town, keeps_sites(town, kind, plan), shown)?;
+    Ok(count + hands::wrong_hands(out, seed, numbers, town, asked, plan, shown)?)
 }

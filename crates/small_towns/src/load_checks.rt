@@ -9,6 +9,7 @@ use drawn_towns::asked::Asked;
 use drawn_towns::loads::Loads;
 use drawn_towns::{STREETS, Town};
 use plain_search::{hands, loads};
+use std::io::{self, Write};
 
 // how often each number was given is a table by that number, 0 for no refusal
 pub const NUMBERS: usize = 256;
@@ -49,6 +50,7 @@ fn is_kept(town: Town, division: [u8; STREETS], loads: Loads, given: Given, with
 
 // How many answers about a plan with drawn loads are wrong: the answer itself, and what it must keep of the one without loads. Its number is counted.
 pub fn wrong_loaded(
+    out: &mut impl Write,
     seed: &mut u64,
     numbers: &mut [u64; NUMBERS],
     town: Town,
@@ -57,18 +59,18 @@ pub fn wrong_loaded(
     claimed: u32,
     without: Given,
     shown: bool,
-) -> u64
+) -> io::Result<u64>
     requires { Small town }
-    ensures { result ≤ 2 }
+    ensures { IfOk result (λ x. x ≤ 2) }
 {
     let loads = drawn_towns::loads::draw_loads(seed, town, division);
     let given = entries::hand(town, asked, division, claimed, loads);
     let right = right_answer(town, asked, division, claimed, loads);
     let x = given.refused as usize;
     numbers[x] = std::num::wrapping_add_u64(numbers[x], 1);
-    let count = answers::wrong(town, given, right, shown);
+    let count = answers::wrong(out, town, given, right, shown)?;
     let kept = is_kept(town, division, loads, given, without);
-    count + answers::fails(town, kept, shown)
+    Ok(count + answers::fails(out, town, kept, shown)?)
 }
 
 // How many plans were counted.
@@ -81,11 +83,19 @@ pub fn all(numbers: [u64; NUMBERS]) -> u64 {
 }
 
 // The lines that say which numbers the plans with loads had.
-pub fn lines(numbers: [u64; NUMBERS]) {
-    say::line(b"hand plans with loads ", all(numbers));
-    say::line(b"of these, passing ", numbers[0]);
-    say::line(b"of these, with a buffer too short ", numbers[6]);
-    say::line(b"of these, with a load or limit too great ", numbers[21]);
-    say::line(b"of these, with a site over its kilograms ", numbers[22]);
-    say::line(b"of these, with a site over its litres ", numbers[23]);
+pub fn lines(out: &mut impl Write, numbers: [u64; NUMBERS]) -> io::Result<()> {
+    say::line(out, b"hand plans with loads ", all(numbers))?;
+    say::line(out, b"of these, passing ", numbers[0])?;
+    say::line(out, b"of these, with a buffer too short ", numbers[6])?;
+    say::line(
+        out,
+        b"of these, with a load or limit too great ",
+        numbers[21],
+    )?;
+    say::line(
+        out,
+        b"of these, with a site over its kilograms ",
+        numbers[22],
+    )?;
+    say::line(out, b"of these, with a site over its litres ", numbers[23])
 }
