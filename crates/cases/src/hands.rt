@@ -1,6 +1,6 @@
 // Cases of hand plans. Commands 12 and 13 have no loads: each street brings 0, and each limit is the greatest one. Commands 14, 15 and 17 read them.
 ghost use Rattle.std.specs.Prelude.{IfOk};
-ghost use Rattle.io.specs.Counts.{IsPrefixLen};
+ghost use Rattle.cases.specs.Counts.{IsPrefixLen};
 
 use crate::input::Loads;
 use crate::{input, say};

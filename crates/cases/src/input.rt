@@ -1,7 +1,7 @@
 // The input of the cases: decimal numbers, which every other byte only separates. A list is its length, a count, and that many values, which stand
 // first in the list, before zeros.
 ghost use Rattle.std.specs.Prelude.{◌<◌, IfOk};
-ghost use Rattle.io.specs.Counts.{IsPrefixLen};
+ghost use Rattle.cases.specs.Counts.{IsPrefixLen};
 
 use std::io::{self, Read};
 
