@@ -1,5 +1,5 @@
 // The balanced entries, compared with a search of all divisions. Where k is above the number of streets they have to refuse, and only there.
-ghost use Rattle.std.specs.Prelude.{◌≤◌};
+ghost use Rattle.std.specs.Prelude.{◌≤◌, IfOk};
 ghost use Rattle.drawn_towns.specs.Small.{Small};
 
 use crate::answers::{Given, UNTOUCHED};

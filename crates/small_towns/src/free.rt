@@ -1,5 +1,5 @@
 // The free entries, compared with totals of sets.
-ghost use Rattle.std.specs.Prelude.{◌≤◌};
+ghost use Rattle.std.specs.Prelude.{◌≤◌, IfOk};
 ghost use Rattle.drawn_towns.specs.Small.{Small};
 
 use crate::answers::{Given, UNTOUCHED};

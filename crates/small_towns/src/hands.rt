@@ -1,6 +1,6 @@
 // Tests of hand-made plans: plans of ours, with the right total and one too high; plans made from them, in which one street has any other site, or
 // one or two streets have another of the plan's sites; and plans that are drawn. Each is tested without loads and with drawn ones.
-ghost use Rattle.std.specs.Prelude.{◌≤◌};
+ghost use Rattle.std.specs.Prelude.{◌≤◌, IfOk};
 ghost use Rattle.drawn_towns.specs.Small.{Small};
 
 use crate::answers::Given;

@@ -1,5 +1,5 @@
 // Plans and hand plans of wrong kinds, which are refused with 4, or for a wrong size before that.
-ghost use Rattle.std.specs.Prelude.{◌≤◌};
+ghost use Rattle.std.specs.Prelude.{◌≤◌, IfOk};
 ghost use Rattle.drawn_towns.specs.Small.{Small};
 
 use crate::answers::UNTOUCHED;

@@ -1,5 +1,5 @@
 // Tests of hand-made plans with drawn loads.
-ghost use Rattle.std.specs.Prelude.{◌≤◌};
+ghost use Rattle.std.specs.Prelude.{◌≤◌, IfOk};
 ghost use Rattle.drawn_towns.specs.Sized.{Sized};
 ghost use Rattle.drawn_towns.specs.Small.{Small};
 

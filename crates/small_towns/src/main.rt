@@ -2,7 +2,7 @@
 // and how many answers were different. The first of these are printed in full.
 #![tactic(auto)]
 
-ghost use Rattle.std.specs.Prelude.{◌≡◌, ◌+◌, ◌≤◌};
+ghost use Rattle.std.specs.Prelude.{◌≡◌, ◌+◌, ◌≤◌, IfOk};
 ghost use Rattle.drawn_towns.specs.Small.{Small};
 ghost use Rattle.small_towns.specs.Counted.{Counted};
 

@@ -1,5 +1,5 @@
 // The plans of both kinds, compared with a plain search, and hand plans made from them.
-ghost use Rattle.std.specs.Prelude.{◌≤◌};
+ghost use Rattle.std.specs.Prelude.{◌≤◌, IfOk};
 ghost use Rattle.drawn_towns.specs.Small.{Small};
 
 use crate::answers::Given;

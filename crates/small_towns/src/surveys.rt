@@ -1,5 +1,5 @@
 // The check of surveys, right ones and ones with a changed score, weight or byte, or with one of each.
-ghost use Rattle.std.specs.Prelude.{◌≤◌};
+ghost use Rattle.std.specs.Prelude.{◌≤◌, IfOk};
 ghost use Rattle.drawn_towns.specs.Small.{Small};
 
 use crate::{answers, entries};

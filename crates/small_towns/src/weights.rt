@@ -1,6 +1,6 @@
 // Towns whose weights are refused, at every call that is given a survey: a weight outside 1 to 99, which is tried after the scores and before the rows,
 // and a weight too few or too many, which is tried before the scores. Each call has to leave its buffers as they were.
-ghost use Rattle.std.specs.Prelude.{◌≤◌};
+ghost use Rattle.std.specs.Prelude.{◌≤◌, IfOk};
 ghost use Rattle.drawn_towns.specs.Small.{Small};
 
 use crate::{answers, entries, rows};
