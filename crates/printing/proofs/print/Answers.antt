@@ -26,12 +26,15 @@ print_held-requires c =
     let scores-wide : length (scores) ≡ most_sites = c.read_file-answer.auto.scores ∙ scores-blank in
     let weights-many : length (weights) ≡ most_streets = c.read_file-answer.auto.weights ∙ weights-blank in
     let rows_long : length (rows) ≡ most_rows = c.read_file-answer.auto.rows ∙ rows-blank in
-    record { survey_held = record {
+    record {
+      survey_held = record {
         asked = (survey).asked;
         scores-long = scores-wide;
         weights-long = weights-many;
         rows_long = rows_long;
-      }; most_text_in_bounds = c.requires }
+      };
+      most_text_in_bounds = c.requires;
+    }
 
 pub write_line-requires : goal.write_line-requires
 write_line-requires c =
