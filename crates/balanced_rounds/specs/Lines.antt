@@ -6,7 +6,7 @@ use Rattle.counting.specs.Bounds.{most_streets, most_sites}
 use Rattle.counting.specs.Words.{◌unless◌}
 use Rattle.counting.specs.Lists.{at, sum, only}
 use Rattle.counting.specs.Flags.{Flags}
-use Rattle.survey.specs.Rows.{row_at, value}
+use Rattle.survey.specs.Rows.{row_at}
 use Rattle.tables.specs.Tables.{StreetTable, value_in}
 use Rattle.balanced_plan.specs.Rounds as plan
 use Rattle.balanced_rounds.specs.declared.State.{State}

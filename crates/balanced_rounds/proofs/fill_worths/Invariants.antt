@@ -1,6 +1,6 @@
 use mathlib.Core.Path.{◌≡◌}
 use lib.ListN.{length}
-use Prim.Native.Nat.{◌-◌, ◌≤◌}
+use Prim.Native.Nat.{◌≤◌}
 use Rattle.counting.specs.Buffers.{Mapped}
 use Rattle.balanced_rounds.specs.Lines.{line_worth}
 use Rattle.balanced_rounds.proofs.fill_worths.Given as goal

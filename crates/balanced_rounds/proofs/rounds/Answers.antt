@@ -1,5 +1,4 @@
 use native.Mathlib.Omega.{arith}
-use Prim.Native.Nat.{◌-◌}
 use Rattle.balanced_rounds.proofs.Rounding.{played-none, played-more}
 use Rattle.balanced_rounds.proofs.rounds.Goals as goal
 

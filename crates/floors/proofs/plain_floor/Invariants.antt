@@ -1,5 +1,5 @@
 use mathlib.Core.Path.{◌≡◌}
-use Prim.Native.Nat.{◌-◌, ◌*◌, ◌≤◌}
+use Prim.Native.Nat.{◌*◌, ◌≤◌}
 use Rattle.counting.specs.Bounds.{most_total}
 use Rattle.counting.specs.Words.{sum_of}
 use Rattle.survey.specs.Rows.{score_at}

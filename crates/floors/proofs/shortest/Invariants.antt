@@ -1,5 +1,5 @@
 use mathlib.Core.Path.{◌≡◌}
-use Prim.Native.Nat.{◌-◌, ◌≤◌}
+use Prim.Native.Nat.{◌≤◌}
 use Rattle.survey.specs.Rows.{shortest_of}
 use Rattle.floors.proofs.shortest.Given as goal
 

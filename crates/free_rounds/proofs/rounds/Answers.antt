@@ -1,4 +1,3 @@
-use Prim.Native.Nat.{◌-◌}
 use native.Mathlib.Omega.{arith}
 use Rattle.free_rounds.proofs.RoundLoops.{counted-small}
 use Rattle.free_rounds.proofs.rounds.Goals as goal

@@ -1,7 +1,7 @@
 use Rattle.hand_plans.specs.Counts.{between}
 use Rattle.counting.specs.Lists.{at}
 use Rattle.counting.specs.Words.{count_of}
-use Prim.Native.Nat.{◌≤◌, ◌-◌, suc}
+use Prim.Native.Nat.{◌≤◌, suc}
 use mathlib.Core.Path.{◌≡◌}
 use Rattle.hand_plans.proofs.count_sites.Given as goal
 

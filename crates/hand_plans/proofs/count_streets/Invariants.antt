@@ -1,6 +1,6 @@
 use Rattle.loads.specs.Sums.{Summed}
 use lib.ListN.{length, take}
-use Prim.Native.Nat.{◌≤◌, ◌-◌}
+use Prim.Native.Nat.{◌≤◌}
 use mathlib.Core.Path.{◌≡◌}
 use Rattle.hand_plans.proofs.count_streets.Given as goal
 

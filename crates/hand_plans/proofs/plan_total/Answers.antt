@@ -6,7 +6,7 @@ use Rattle.counting.specs.Bounds.{most_value}
 use Rattle.counting.specs.Lists.{at}
 use Rattle.survey.proofs.Places.{valued-bound}
 use native.Mathlib.Omega.{arith}
-use Prim.Native.Nat.{◌≤◌, ◌-◌}
+use Prim.Native.Nat.{◌≤◌}
 use mathlib.Core.Path.{◌≡◌}
 use Rattle.hand_plans.proofs.plan_total.Goals as goal
 

@@ -3,7 +3,7 @@ use Rattle.division.specs.Shares.{division_total}
 use Rattle.survey.specs.Rows.{value}
 use Rattle.counting.specs.Bounds.{most_value}
 use lib.ListN.{take}
-use Prim.Native.Nat.{◌≤◌, ◌-◌, ◌*◌}
+use Prim.Native.Nat.{◌≤◌, ◌*◌}
 use mathlib.Core.Path.{◌≡◌}
 use Rattle.hand_plans.proofs.plan_total.Given as goal
 

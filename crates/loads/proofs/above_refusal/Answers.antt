@@ -1,5 +1,3 @@
-use Prim.Native.Nat.{◌-◌}
-use Rattle.counting.specs.Words.{◌when◌}
 use Rattle.counting.proofs.Refusals.{scan, first_found, when-yes}
 use native.Mathlib.Omega.{arith}
 use borrow.Author.Tests.{lt-ltb, le-ltb}

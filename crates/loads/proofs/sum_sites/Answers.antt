@@ -1,6 +1,5 @@
 use borrow.Author.Rules.{rules}
 use mathlib.Core.Path.{refl}
-use Prim.Native.Nat.{◌-◌}
 use native.Mathlib.Omega.{arith}
 use Rattle.counting.specs.Lists.{at}
 use Rattle.loads.specs.Loads.{most_load}
@@ -14,7 +13,7 @@ loop-s-init c = (search rules, refl, summed-none (at c.args.loads.now))
 pub overflow_add-sums : goal.overflow_add-sums
 overflow_add-sums c =
     let l = c.loop-s in
-    let given = c.shared_slice_known-1.given l.s in
+    let given = c.type_inv.division l.s in
     let loads = c.args.loads.now in
     let few = above-none loads c.requires.2 in
     let room = summed-room (at loads) l.sums c.args.division.now l.s (omega arith) (omega (arith, given)) l.invariant.2 most_load few in
@@ -24,5 +23,5 @@ pub loop-s-preserved : goal.loop-s-preserved
 loop-s-preserved c =
     let l = c.loop-s in
     let s = c.args in
-    let given = c.shared_slice_known-1.given l.s in
+    let given = c.type_inv.division l.s in
     (omega arith, refl, summed-more (at s.loads.now) l.sums s.division.now l.s (omega arith) (omega (arith, given)) l.invariant.2)

@@ -1,4 +1,3 @@
-use Prim.Native.Nat.{◌-◌}
 use Rattle.counting.proofs.Refusals.{loop}
 use Rattle.refusals.proofs.ranges_refusal.Goals as goal
 

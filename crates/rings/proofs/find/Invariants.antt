@@ -1,5 +1,5 @@
 use mathlib.Core.Logic.{◌≢◌}
-use Prim.Native.Nat.{ℕ, ◌-◌, ◌≤◌, ◌<◌}
+use Prim.Native.Nat.{ℕ, ◌≤◌, ◌<◌}
 use Rattle.counting.specs.Lists.{at}
 use Rattle.rings.proofs.find.Given as goal
 

@@ -1,4 +1,3 @@
-use Prim.Native.Nat.{◌-◌}
 use native.Mathlib.Omega.{arith}
 use Rattle.rings.proofs.WalkBack.{ends}
 use Rattle.rings.proofs.walk.Goals as goal

@@ -1,6 +1,5 @@
 use native.Mathlib.Omega.{arith}
 use mathlib.Core.Path.{refl}
-use Prim.Native.Nat.{◌-◌}
 use Rattle.balanced_rounds.proofs.Walked.{giving-more}
 use Rattle.balanced_rounds.proofs.walks.give_lot.Goals as goal
 

@@ -1,6 +1,6 @@
 use mathlib.Core.Path.{◌≡◌}
 use lib.ListN.{length}
-use Prim.Native.Nat.{◌-◌, ◌≤◌}
+use Prim.Native.Nat.{◌≤◌}
 use Rattle.balanced_rounds.proofs.Walked.{Giving}
 use Rattle.balanced_rounds.proofs.walks.give_lot.Given as goal
 

@@ -1,6 +1,5 @@
 use native.Mathlib.Omega.{arith}
 use mathlib.Core.Path.{refl}
-use Prim.Native.Nat.{◌-◌}
 use Rattle.balanced_rounds.proofs.Walked.{adding-more, adding-stop}
 use Rattle.balanced_rounds.proofs.walks.worth.Goals as goal
 

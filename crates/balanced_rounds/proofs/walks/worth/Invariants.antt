@@ -1,6 +1,6 @@
 use mathlib.Core.Path.{◌≡◌}
 use lib.ListN.{length}
-use Prim.Native.Nat.{◌-◌, ◌≤◌}
+use Prim.Native.Nat.{◌≤◌}
 use Rattle.tables.specs.Tables.{value_in}
 use Rattle.balanced_rounds.proofs.Walked.{Adding}
 use Rattle.balanced_rounds.proofs.walks.worth.Given as goal

@@ -1,6 +1,6 @@
 use mathlib.Core.Path.{◌≡◌}
 use mathlib.Core.Bool.{false}
-use Prim.Native.Nat.{◌≤◌, ◌-◌}
+use Prim.Native.Nat.{◌≤◌}
 use lib.ListN.{length, get_or, drop}
 use Rattle.survey.specs.Rows.{ranked_part}
 use Rattle.free_plan.specs.Greedy.{goes_to}

@@ -1,5 +1,4 @@
 use mathlib.Core.Path.{refl}
-use Prim.Native.Nat.{◌-◌}
 use native.Mathlib.Omega.{arith}
 use Rattle.counting.proofs.Filling.{mapped_end, mapped-list_of}
 use Rattle.free_results.proofs.serve.serve.Goals as goal

@@ -17,10 +17,14 @@ choose-site-requires c =
     let whole : length (take c.args.n c.args.self.bests) ≡ c.args.n = length-take-le c.args.n c.args.self.bests (omega (arith, c.requires.site_table.0.few-streets, c.requires.held_2.0.bests-size)) in
     let a = c.args in
     let held = c.requires.held_2.0 in
-    let small = bests-small _ a.n _ held (λ t x. c.requires.site_table.0.small _) in record { site_table = (
+    let small = bests-small _ a.n _ held (λ t x. c.requires.site_table.0.small _) in record {
+      site_table = (
         along (λ (k : ℕ). SiteTable k a.m a.values.now) (whole) c.requires.site_table.0,
         along (λ (k : ℕ). Weighed k a.weights.now a.even) (whole) c.requires.site_table.1,
-      ); scores = (small, held.flags.size); bounded = bounds-out a.weights.now a.values.now held c.requires.site_table.0.few-streets a.self.bounds c.requires.held_2.1 }
+      );
+      scores = (small, held.flags.size);
+      bounded = bounds-out a.weights.now a.values.now held c.requires.site_table.0.few-streets a.self.bounds c.requires.held_2.1;
+    }
 
 pub overflow_cast-site : goal.overflow_cast-site
 overflow_cast-site c =

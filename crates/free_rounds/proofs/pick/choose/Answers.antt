@@ -1,8 +1,7 @@
 use borrow.Author.Rules.{rules}
 use mathlib.Core.Path.{◌≡◌, refl}
-use mathlib.Core.Logic.{⊎_elim}
 use mathlib.Core.List.{List}
-use Prim.Native.Nat.{ℕ, ◌≤◌, ◌<◌, ◌-◌, ◌+◌}
+use Prim.Native.Nat.{ℕ, ◌≤◌, ◌<◌, ◌+◌}
 use native.Mathlib.Omega.{arith}
 use lib.ListN.{length}
 use Rattle.counting.specs.Bounds.{most_width, most_worth}
@@ -105,7 +104,7 @@ loop-i-preserved c =
     let low : l.i + 1 < most_width = omega (arith, p.site_table.0.few-sites) in
     let so = range (l.i + 1) in
     let turned : Turned c.if-found-hope.bounds c.if-found-hope.found = elim c.if-found-hope.branch [
-        then-found-hope w ↦
+      | then-found-hope w ↦
           let e = row-sum a.weights.now a.bests.now p.site_table.0 (omega arith) w.sum_with-sum.ensures in
           either_way (Turned) w.bounds-is w.found-is (
             bounded-set l.invariant.3 (l.i + 1) _ _ low e l.invariant.2 so.0 so.1,
@@ -116,7 +115,8 @@ loop-i-preserved c =
             l.invariant.3,
             pass-turn f a.flags.now l.i _ _ (c.sum-total.result + at l.bounds (l.i + 1)) _ l.invariant.4
                 (omega (arith, l.invariant.3.right (l.i + 1) low, l.invariant.2)) c.worth_or_none-hope.ensures (omega (arith, w.if-found-hope.false)),
-          ) ] in
+          )
+    ] in
     (omega arith, refl, l.invariant.2, turned.0, turned.1)
 
 pub returns : goal.returns

@@ -1,6 +1,6 @@
 use borrow.Author.Rules.{rules}
 use mathlib.Core.Path.{◌≡◌, refl, ◌∙◌}
-use Prim.Native.Nat.{◌≤◌, ◌-◌, ◌+◌, max}
+use Prim.Native.Nat.{◌≤◌, ◌+◌, max}
 use native.Mathlib.Omega.{arith}
 use Rattle.counting.specs.Bounds.{most_total}
 use Rattle.counting.specs.Words.{sum_of}

@@ -1,5 +1,5 @@
 use mathlib.Core.Path.{◌≡◌}
-use Prim.Native.Nat.{◌≤◌, ◌-◌, ◌*◌, max}
+use Prim.Native.Nat.{◌≤◌, ◌*◌, max}
 use lib.ListN.{length}
 use Rattle.counting.specs.Words.{sum_of}
 use Rattle.counting.specs.Lists.{at}

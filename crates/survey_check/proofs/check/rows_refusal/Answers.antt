@@ -1,4 +1,3 @@
-use Prim.Native.Nat.{◌-◌}
 use Rattle.counting.proofs.Refusals.{loop}
 use Rattle.survey_check.proofs.check.rows_refusal.Goals as goal
 

@@ -1,4 +1,3 @@
-use Prim.Native.Nat.{◌-◌}
 use Rattle.counting.proofs.Refusals.{loop}
 use Rattle.survey_check.proofs.check.scores_refusal.Goals as goal
 

@@ -1,6 +1,5 @@
 use borrow.Author.Rules.{rules}
 use mathlib.Core.Path.{refl}
-use Prim.Native.Nat.{◌-◌}
 use native.Mathlib.Omega.{arith}
 use Rattle.survey_check.proofs.Bits.{bits-start, bits-next}
 use Rattle.survey_check.proofs.quick.bits_of.Goals as goal

@@ -1,5 +1,5 @@
 use mathlib.Core.Path.{◌≡◌}
-use Prim.Native.Nat.{◌≤◌, ◌-◌}
+use Prim.Native.Nat.{◌≤◌}
 use lib.ListN.{length}
 use Rattle.survey_check.specs.Bits.{bits_of}
 use Rattle.survey_check.proofs.quick.bits_of.Given as goal

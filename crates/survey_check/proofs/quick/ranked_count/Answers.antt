@@ -1,4 +1,4 @@
-use Prim.Native.Nat.{◌+◌, ◌-◌}
+use Prim.Native.Nat.{◌+◌}
 use native.Mathlib.Omega.{arith}
 use Rattle.survey_check.proofs.Bits.{ranked-most, ranked-next}
 use Rattle.survey_check.proofs.quick.ranked_count.Goals as goal

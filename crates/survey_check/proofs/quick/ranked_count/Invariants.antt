@@ -1,5 +1,5 @@
 use mathlib.Core.Path.{◌≡◌}
-use Prim.Native.Nat.{◌≤◌, ◌-◌}
+use Prim.Native.Nat.{◌≤◌}
 use lib.ListN.{length}
 use Rattle.survey_check.specs.Bits.{ranked_count}
 use Rattle.survey_check.proofs.quick.ranked_count.Given as goal

@@ -1,5 +1,4 @@
 use borrow.Author.Rules.{rules}
-use Prim.Native.Nat.{◌-◌}
 use native.Mathlib.Omega.{arith}
 use Rattle.survey_check.proofs.Bits.{bits_none, bits-more}
 use Rattle.survey_check.proofs.quick.site_bits.Goals as goal

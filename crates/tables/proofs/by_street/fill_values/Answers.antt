@@ -1,6 +1,5 @@
 use borrow.Author.Rules.{rules}
 use mathlib.Core.Path.{refl, ◌∙◌}
-use Prim.Native.Nat.{◌-◌}
 use native.Mathlib.Omega.{arith}
 use Rattle.tables.proofs.Filling.{by-street, filled_more, ranked}
 use Rattle.tables.proofs.Tabled.{blank-start, weighed-none, street-fits}

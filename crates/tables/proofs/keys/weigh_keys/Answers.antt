@@ -1,5 +1,4 @@
 use mathlib.Core.Path.{refl}
-use Prim.Native.Nat.{◌-◌}
 use native.Mathlib.Omega.{arith}
 use Rattle.tables.proofs.Weighed.{weighed-more}
 use Rattle.tables.proofs.keys.weigh_keys.Goals as goal
