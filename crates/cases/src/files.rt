@@ -1,9 +1,11 @@
 // Cases of files that are written, read and converted.
 use crate::{input, say};
 use planner::Read;
+use std::io::{self, Write};
 
 // A file that is written, and its buffer.
 fn written(
+    out: &mut impl Write,
     n: usize,
     m: usize,
     k: usize,
@@ -13,35 +15,42 @@ fn written(
     weights: &[u8],
     rows: &[u8],
     file: &mut [u8],
-) {
-    say::answer(planner::write_file(n, m, k, kind, new_form, scores, weights, rows, file));
-    say::buffer(b" file", file);
+) -> io::Result<()> {
+    say::answer(
+        out,
+        planner::write_file(n, m, k, kind, new_form, scores, weights, rows, file),
+    )?;
+    say::buffer(out, b" file", file)
 }
 
 // The form of a file: 0 for the old one, any other number for the new one.
-fn form() -> bool {
-    input::number() != 0
+fn form(reader: &mut impl io::Read) -> io::Result<bool> {
+    Ok(input::number(reader)? != 0)
 }
 
 // The form of the file of a case: the next number, or where the case has no weights the old form.
-fn form_of(weighed: bool) -> bool {
+fn form_of(reader: &mut impl io::Read, weighed: bool) -> io::Result<bool> {
     if weighed {
-        return form();
+        return form(reader);
     }
-    false
+    Ok(false)
 }
 
 // Command 10: the streets, the sites, the chosen, the kind; with weights, the form; the scores; the rows; the file's buffer.
-pub fn write_case(weighed: bool) {
-    let n = input::number();
-    let m = input::number();
-    let k = input::number();
-    let kind = input::number();
-    let new_form = form_of(weighed);
-    let s = input::scores_list();
-    let w = input::weights_of(weighed, n);
-    let r = input::bytes_list();
-    let f = input::bytes_list();
+pub fn write_case(
+    reader: &mut impl io::Read,
+    out: &mut impl Write,
+    weighed: bool,
+) -> io::Result<()> {
+    let n = input::number(reader)?;
+    let m = input::number(reader)?;
+    let k = input::number(reader)?;
+    let kind = input::number(reader)?;
+    let new_form = form_of(reader, weighed)?;
+    let s = input::scores_list(reader)?;
+    let w = input::weights_of(reader, weighed, n)?;
+    let r = input::bytes_list(reader)?;
+    let f = input::bytes_list(reader)?;
     let scores = s.buffer;
     let s_len = s.len;
     let weights = w.buffer;
@@ -51,6 +60,7 @@ pub fn write_case(weighed: bool) {
     let mut file = f.buffer;
     let f_len = f.len;
     written(
+        out,
         n,
         m,
         k,
@@ -60,20 +70,19 @@ pub fn write_case(weighed: bool) {
         &weights[..w_len],
         &rows[..r_len],
         &mut file[..f_len],
-    );
+    )
 }
 
 // The form that was read.
-fn say_form(new_form: bool) {
+fn say_form(out: &mut impl Write, new_form: bool) -> io::Result<()> {
     if new_form {
-        say::number(b" form ", 1);
-        return;
+        return say::number(out, b" form ", 1);
     }
-    say::number(b" form ", 0);
+    say::number(out, b" form ", 0)
 }
 
 // The reader's answer.
-fn say_read(answer: Read, weighed: bool) {
+fn say_read(out: &mut impl Write, answer: Read, weighed: bool) -> io::Result<()> {
     match answer {
         Read::Survey {
             n,
@@ -82,15 +91,16 @@ fn say_read(answer: Read, weighed: bool) {
             kind,
             new_form,
         } => {
-            say::number(b" streets ", n as u64);
-            say::number(b" sites ", m as u64);
-            say::number(b" chosen ", k as u64);
-            say::number(b" kind ", kind as u64);
+            say::number(out, b" streets ", n as u64)?;
+            say::number(out, b" sites ", m as u64)?;
+            say::number(out, b" chosen ", k as u64)?;
+            say::number(out, b" kind ", kind as u64)?;
             if weighed {
-                say_form(new_form);
+                say_form(out, new_form)?;
             }
+            Ok(())
         }
-        Read::Refused(x) => say::number(b" refused ", x as u64),
+        Read::Refused(x) => say::number(out, b" refused ", x as u64),
     }
 }
 
@@ -103,20 +113,36 @@ fn front(bytes: &[u8]) -> &[u8] {
 }
 
 // A file that is read, and the first bytes of its rows; in a case with weights the first weights, too.
-fn read_in(file: &[u8], rows: &mut [u8], scores: &mut [u16], weights: &mut [u8], weighed: bool) {
-    say_read(planner::read_file(file, scores, weights, rows), weighed);
-    say::buffer(b" rows", front(rows));
+fn read_in(
+    out: &mut impl Write,
+    file: &[u8],
+    rows: &mut [u8],
+    scores: &mut [u16],
+    weights: &mut [u8],
+    weighed: bool,
+) -> io::Result<()> {
+    say_read(
+        out,
+        planner::read_file(file, scores, weights, rows),
+        weighed,
+    )?;
+    say::buffer(out, b" rows", front(rows))?;
     if weighed {
-        say::buffer(b" weights", front(weights));
+        say::buffer(out, b" weights", front(weights))?;
     }
+    Ok(())
 }
 
 // Command 11: the file; the rows' buffer; the scores' buffer; with weights, their buffer, which else has the right length and is not printed.
-pub fn read_case(weighed: bool) {
-    let f = input::bytes_list();
-    let r = input::bytes_list();
-    let s = input::scores_list();
-    let w = input::weights_of(weighed, 400);
+pub fn read_case(
+    reader: &mut impl io::Read,
+    out: &mut impl Write,
+    weighed: bool,
+) -> io::Result<()> {
+    let f = input::bytes_list(reader)?;
+    let r = input::bytes_list(reader)?;
+    let s = input::scores_list(reader)?;
+    let w = input::weights_of(reader, weighed, 400)?;
     let file = f.buffer;
     let f_len = f.len;
     let mut rows = r.buffer;
@@ -126,28 +152,29 @@ pub fn read_case(weighed: bool) {
     let mut weights = w.buffer;
     let w_len = w.len;
     read_in(
+        out,
         &file[..f_len],
         &mut rows[..r_len],
         &mut scores[..s_len],
         &mut weights[..w_len],
         weighed,
-    );
+    )
 }
 
 // A file that is converted, and its buffer.
-fn converted(file: &[u8], wanted: bool, buffer: &mut [u8]) {
-    say::answer(planner::convert_file(file, wanted, buffer));
-    say::buffer(b" file", buffer);
+fn converted(out: &mut impl Write, file: &[u8], wanted: bool, buffer: &mut [u8]) -> io::Result<()> {
+    say::answer(out, planner::convert_file(file, wanted, buffer))?;
+    say::buffer(out, b" file", buffer)
 }
 
 // Command 18: the file; the form that is wanted; the buffer.
-pub fn convert_case() {
-    let f = input::bytes_list();
-    let wanted = form();
-    let b = input::bytes_list();
+pub fn convert_case(reader: &mut impl io::Read, out: &mut impl Write) -> io::Result<()> {
+    let f = input::bytes_list(reader)?;
+    let wanted = form(reader)?;
+    let b = input::bytes_list(reader)?;
     let file = f.buffer;
     let f_len = f.len;
     let mut buffer = b.buffer;
     let b_len = b.len;
-    converted(&file[..f_len], wanted, &mut buffer[..b_len]);
+    converted(out, &file[..f_len], wanted, &mut buffer[..b_len])
 }

@@ -1,25 +1,28 @@
 // Cases of hand plans. Commands 12 and 13 have no loads: each street brings 0, and each limit is the greatest one. Commands 14, 15 and 17 read them.
-ghost use Rattle.io.specs.Counts.{IsPrefixLen};
+ghost use Rattle.std.specs.Prelude.{IfOk};
+ghost use Rattle.cases.specs.Counts.{IsPrefixLen};
 
 use crate::input::Loads;
 use crate::{input, say};
 use planner::Answer;
+use std::io::{self, Read, Write};
 
 // the greatest limit
 const MOST: u32 = 1000000;
 
 // A list of loads or limits: the next one of the input, or where the case has none `len` times the same.
-fn loads(loaded: bool, each: u32, len: usize) -> Loads
-    ensures { IsPrefixLen result.len result.buffer }
+fn loads(reader: &mut impl Read, loaded: bool, each: u32, len: usize) -> io::Result<Loads>
+    ensures { IfOk result (λ x. IsPrefixLen x.len x.buffer) }
 {
     if loaded {
-        return input::loads_list();
+        return input::loads_list(reader);
     }
-    input::loads_of(each, len)
+    Ok(input::loads_of(each, len))
 }
 
 // What stands behind the division in a case: the claimed total; the kilograms; the litres; the limits of both.
 fn loaded_hand(
+    reader: &mut impl Read,
     loaded: bool,
     n: usize,
     m: usize,
@@ -29,12 +32,12 @@ fn loaded_hand(
     weights: &[u8],
     rows: &[u8],
     division: &[u8],
-) -> Answer {
-    let claimed = input::below(input::TOTALS_BOUND);
-    let a = loads(loaded, 0, n);
-    let b = loads(loaded, 0, n);
-    let c = loads(loaded, MOST, m);
-    let d = loads(loaded, MOST, m);
+) -> io::Result<Answer> {
+    let claimed = input::below(reader, input::TOTALS_BOUND)?;
+    let a = loads(reader, loaded, 0, n)?;
+    let b = loads(reader, loaded, 0, n)?;
+    let c = loads(reader, loaded, MOST, m)?;
+    let d = loads(reader, loaded, MOST, m)?;
     let kilograms = a.buffer;
     let a_len = a.len;
     let litres = b.buffer;
@@ -43,7 +46,7 @@ fn loaded_hand(
     let c_len = c.len;
     let litre_limits = d.buffer;
     let d_len = d.len;
-    planner::hand_plan(
+    Ok(planner::hand_plan(
         n,
         m,
         k,
@@ -57,19 +60,25 @@ fn loaded_hand(
         &litres[..b_len],
         &kilogram_limits[..c_len],
         &litre_limits[..d_len],
-    )
+    ))
 }
 
 // Commands 12, free, and 13, balanced: the streets, the sites, the chosen; the scores; the rows; the division; the claimed total. Commands 14 and 15
 // are the same with loads, and command 17 also with the kind before them.
-pub fn hand_case(kind: usize, loaded: bool, weighed: bool) {
-    let n = input::number();
-    let m = input::number();
-    let k = input::number();
-    let s = input::scores_list();
-    let w = input::weights_of(weighed, n);
-    let r = input::bytes_list();
-    let d = input::bytes_list();
+pub fn hand_case(
+    reader: &mut impl Read,
+    out: &mut impl Write,
+    kind: usize,
+    loaded: bool,
+    weighed: bool,
+) -> io::Result<()> {
+    let n = input::number(reader)?;
+    let m = input::number(reader)?;
+    let k = input::number(reader)?;
+    let s = input::scores_list(reader)?;
+    let w = input::weights_of(reader, weighed, n)?;
+    let r = input::bytes_list(reader)?;
+    let d = input::bytes_list(reader)?;
     let scores = s.buffer;
     let s_len = s.len;
     let weights = w.buffer;
@@ -78,7 +87,8 @@ pub fn hand_case(kind: usize, loaded: bool, weighed: bool) {
     let r_len = r.len;
     let division = d.buffer;
     let d_len = d.len;
-    say::answer(loaded_hand(
+    let given = loaded_hand(
+        reader,
         loaded,
         n,
         m,
@@ -88,5 +98,6 @@ pub fn hand_case(kind: usize, loaded: bool, weighed: bool) {
         &weights[..w_len],
         &rows[..r_len],
         &division[..d_len],
-    ));
+    )?;
+    say::answer(out, given)
 }

@@ -1,9 +1,9 @@
 // The input of the cases: decimal numbers, which every other byte only separates. A list is its length, a count, and that many values, which stand
 // first in the list, before zeros.
-ghost use Rattle.std.specs.Prelude.{◌<◌};
-ghost use Rattle.io.specs.Counts.{IsPrefixLen};
+ghost use Rattle.std.specs.Prelude.{◌<◌, IfOk};
+ghost use Rattle.cases.specs.Counts.{IsPrefixLen};
 
-use libc::STDIN_FILENO;
+use std::io::{self, Read};
 
 // the most bytes up to the end of a number
 const GAP: usize = 10000;
@@ -60,68 +60,68 @@ pub struct Loads {
 }
 
 // The next byte of the input as a digit; above 9 where it is none, and past the end.
-fn digit() -> u8 {
+fn digit(reader: &mut impl Read) -> io::Result<u8> {
     let mut byte = [0u8; 1];
-    io::read_full(STDIN_FILENO, &mut byte);
-    std::num::wrapping_sub_u8(byte[0], b'0')
+    streams::read_full(reader, &mut byte)?;
+    Ok(std::num::wrapping_sub_u8(byte[0], b'0'))
 }
 
 // The next number, and 0 where none is left. Every number of 64 bits can be read, and no case has a greater one.
-pub fn number() -> usize {
+pub fn number(reader: &mut impl Read) -> io::Result<usize> {
     let mut value: usize = 0;
     let mut begun = false;
     for i in 0..GAP {
-        let d = digit();
+        let d = digit(reader)?;
         if d <= 9 {
             begun = true;
             value = std::num::wrapping_add_usize(value % TENTH * 10, d as usize);
         } else {
             if begun {
-                return value;
+                return Ok(value);
             }
         }
     }
-    value
+    Ok(value)
 }
 
 // The next number, modulo a bound, which is above it in every case.
-pub fn below(bound: usize) -> usize
+pub fn below(reader: &mut impl Read, bound: usize) -> io::Result<usize>
     requires { 0 < bound }
-    ensures { result < bound }
+    ensures { IfOk result (λ x. x < bound) }
 {
-    number() % bound
+    Ok(number(reader)? % bound)
 }
 
 // The next list, of scores.
-pub fn scores_list() -> Scores
-    ensures { IsPrefixLen result.len result.buffer }
+pub fn scores_list(reader: &mut impl Read) -> io::Result<Scores>
+    ensures { IfOk result (λ x. IsPrefixLen x.len x.buffer) }
 {
-    let len = below(SCORES_BOUND);
-    let count = below(SCORES_BOUND);
+    let len = below(reader, SCORES_BOUND)?;
+    let count = below(reader, SCORES_BOUND)?;
     let mut buffer = [0u16; SCORES];
     for i in 0..count {
-        buffer[i] = below(65536) as u16;
+        buffer[i] = below(reader, 65536)? as u16;
     }
-    Scores {
+    Ok(Scores {
         buffer: buffer,
         len: len,
-    }
+    })
 }
 
 // The next list, of weights.
-fn weights_list() -> Weights
-    ensures { IsPrefixLen result.len result.buffer }
+fn weights_list(reader: &mut impl Read) -> io::Result<Weights>
+    ensures { IfOk result (λ x. IsPrefixLen x.len x.buffer) }
 {
-    let len = below(WEIGHTS_BOUND);
-    let count = below(WEIGHTS_BOUND);
+    let len = below(reader, WEIGHTS_BOUND)?;
+    let count = below(reader, WEIGHTS_BOUND)?;
     let mut buffer = [0u8; WEIGHTS];
     for i in 0..count {
-        buffer[i] = below(256) as u8;
+        buffer[i] = below(reader, 256)? as u8;
     }
-    Weights {
+    Ok(Weights {
         buffer: buffer,
         len: len,
-    }
+    })
 }
 
 // The weight 1 over and over, which is not read. A longer list than fits is never looked at: then the streets are too many.
@@ -142,45 +142,45 @@ fn ones(len: usize) -> Weights
 }
 
 // The weights of n streets: the next list of the input, or where the case has none 1 for each street.
-pub fn weights_of(weighed: bool, n: usize) -> Weights
-    ensures { IsPrefixLen result.len result.buffer }
+pub fn weights_of(reader: &mut impl Read, weighed: bool, n: usize) -> io::Result<Weights>
+    ensures { IfOk result (λ x. IsPrefixLen x.len x.buffer) }
 {
     if weighed {
-        return weights_list();
+        return weights_list(reader);
     }
-    ones(n)
+    Ok(ones(n))
 }
 
 // The next list, of bytes.
-pub fn bytes_list() -> Bytes
-    ensures { IsPrefixLen result.len result.buffer }
+pub fn bytes_list(reader: &mut impl Read) -> io::Result<Bytes>
+    ensures { IfOk result (λ x. IsPrefixLen x.len x.buffer) }
 {
-    let len = below(BYTES_BOUND);
-    let count = below(BYTES_BOUND);
+    let len = below(reader, BYTES_BOUND)?;
+    let count = below(reader, BYTES_BOUND)?;
     let mut buffer = [0u8; BYTES];
     for i in 0..count {
-        buffer[i] = below(256) as u8;
+        buffer[i] = below(reader, 256)? as u8;
     }
-    Bytes {
+    Ok(Bytes {
         buffer: buffer,
         len: len,
-    }
+    })
 }
 
 // The next list, of loads or limits.
-pub fn loads_list() -> Loads
-    ensures { IsPrefixLen result.len result.buffer }
+pub fn loads_list(reader: &mut impl Read) -> io::Result<Loads>
+    ensures { IfOk result (λ x. IsPrefixLen x.len x.buffer) }
 {
-    let len = below(LOADS_BOUND);
-    let count = below(LOADS_BOUND);
+    let len = below(reader, LOADS_BOUND)?;
+    let count = below(reader, LOADS_BOUND)?;
     let mut buffer = [0u32; LOADS];
     for i in 0..count {
-        buffer[i] = below(TOTALS_BOUND) as u32;
+        buffer[i] = below(reader, TOTALS_BOUND)? as u32;
     }
-    Loads {
+    Ok(Loads {
         buffer: buffer,
         len: len,
-    }
+    })
 }
 
 // A list of one load or limit over and over, which is not read. A longer one than fits is never looked at: then the streets or sites are too many.

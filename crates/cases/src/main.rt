@@ -3,12 +3,12 @@
 // the weight 1. No case has a list that is longer than its buffer.
 #![tactic(auto)]
 
-use libc::STDOUT_FILENO;
+use std::io::{self, BufReader, Read, Write};
 
 mod files;
 mod hands;
 mod input;
-mod plans;
+mod plan_cases;
 mod say;
 
 // the last command, what a command with weights has more, and the most cases
@@ -19,113 +19,137 @@ const WEIGHED: usize = 20;
 const CASES: u64 = 10000;
 
 // Command 1: the streets, the sites, the chosen; the scores; the rows.
-fn check_case(weighed: bool) {
-    let n = input::number();
-    let m = input::number();
-    let k = input::number();
-    let s = input::scores_list();
-    let w = input::weights_of(weighed, n);
-    let r = input::bytes_list();
+fn check_case(reader: &mut impl Read, out: &mut impl Write, weighed: bool) -> io::Result<()> {
+    let n = input::number(reader)?;
+    let m = input::number(reader)?;
+    let k = input::number(reader)?;
+    let s = input::scores_list(reader)?;
+    let w = input::weights_of(reader, weighed, n)?;
+    let r = input::bytes_list(reader)?;
     let scores = s.buffer;
     let s_len = s.len;
     let weights = w.buffer;
     let w_len = w.len;
     let rows = r.buffer;
     let r_len = r.len;
-    say::checked(planner::check_survey(
-        n,
-        m,
-        k,
-        &scores[..s_len],
-        &weights[..w_len],
-        &rows[..r_len],
-    ));
+    say::checked(
+        out,
+        planner::check_survey(n, m, k, &scores[..s_len], &weights[..w_len], &rows[..r_len]),
+    )
 }
 
 // The weight of one street: the next number, or where the case has none 1.
-fn one_weight(weighed: bool) -> u8 {
+fn one_weight(reader: &mut impl Read, weighed: bool) -> io::Result<u8> {
     if weighed {
-        return input::below(256) as u8;
+        return Ok(input::below(reader, 256)? as u8);
     }
-    1
+    Ok(1)
 }
 
 // Command 2: the sites; the scores; the row; the site.
-fn row_case(weighed: bool) {
-    let m = input::number();
-    let s = input::scores_list();
-    let weight = one_weight(weighed);
-    let r = input::bytes_list();
-    let site = input::below(256);
+fn row_case(reader: &mut impl Read, out: &mut impl Write, weighed: bool) -> io::Result<()> {
+    let m = input::number(reader)?;
+    let s = input::scores_list(reader)?;
+    let weight = one_weight(reader, weighed)?;
+    let r = input::bytes_list(reader)?;
+    let site = input::below(reader, 256)?;
     let scores = s.buffer;
     let s_len = s.len;
     let row = r.buffer;
     let r_len = r.len;
-    say::answer(planner::row_score(m, &scores[..s_len], weight, &row[..r_len], site as u8));
+    say::answer(
+        out,
+        planner::row_score(m, &scores[..s_len], weight, &row[..r_len], site as u8),
+    )
 }
 
 // Command 3: the row.
-fn part_case() {
-    let r = input::bytes_list();
+fn part_case(reader: &mut impl Read, out: &mut impl Write) -> io::Result<()> {
+    let r = input::bytes_list(reader)?;
     let row = r.buffer;
     let r_len = r.len;
-    io::write_all(STDOUT_FILENO, b" part");
-    say::list(planner::ranked_part(&row[..r_len]));
+    out.write_all(b" part")?;
+    say::list(out, planner::ranked_part(&row[..r_len]))
 }
 
 // The answer of one case, of a command without its twenty.
-fn answered(command: usize, weighed: bool) {
+fn answered(
+    reader: &mut impl Read,
+    out: &mut impl Write,
+    command: usize,
+    weighed: bool,
+) -> io::Result<()> {
     match command {
-        1 => check_case(weighed),
-        2 => row_case(weighed),
-        3 => part_case(),
-        4 => plans::list_case(weighed),
-        5 => plans::division_case(false, weighed),
-        6 => plans::plan_case(0, weighed),
-        7 => plans::division_case(true, weighed),
-        8 => plans::plan_case(1, weighed),
-        9 => plans::floor_case(weighed),
-        10 => files::write_case(weighed),
-        11 => files::read_case(weighed),
-        12 => hands::hand_case(0, false, weighed),
-        13 => hands::hand_case(1, false, weighed),
-        14 => hands::hand_case(0, true, weighed),
-        15 => hands::hand_case(1, true, weighed),
-        16 => plans::plan_case(input::number(), weighed),
-        17 => hands::hand_case(input::number(), true, weighed),
-        _ => files::convert_case(),
+        1 => check_case(reader, out, weighed),
+        2 => row_case(reader, out, weighed),
+        3 => part_case(reader, out),
+        4 => plan_cases::list_case(reader, out, weighed),
+        5 => plan_cases::division_case(reader, out, false, weighed),
+        6 => plan_cases::plan_case(reader, out, 0, weighed),
+        7 => plan_cases::division_case(reader, out, true, weighed),
+        8 => plan_cases::plan_case(reader, out, 1, weighed),
+        9 => plan_cases::floor_case(reader, out, weighed),
+        10 => files::write_case(reader, out, weighed),
+        11 => files::read_case(reader, out, weighed),
+        12 => hands::hand_case(reader, out, 0, false, weighed),
+        13 => hands::hand_case(reader, out, 1, false, weighed),
+        14 => hands::hand_case(reader, out, 0, true, weighed),
+        15 => hands::hand_case(reader, out, 1, true, weighed),
+        16 => {
+            let kind = input::number(reader)?;
+            plan_cases::plan_case(reader, out, kind, weighed)
+        }
+        17 => {
+            let kind = input::number(reader)?;
+            hands::hand_case(reader, out, kind, true, weighed)
+        }
+        _ => files::convert_case(reader, out),
     }
 }
 
 // The line of one case, of a command without its twenty; false where the command is none, which ends the run.
-fn case_line(case: u64, command: usize, weighed: bool) -> bool {
+fn case_line(
+    reader: &mut impl Read,
+    out: &mut impl Write,
+    case: u64,
+    command: usize,
+    weighed: bool,
+) -> io::Result<bool> {
     if LAST < command {
-        io::write_all(STDOUT_FILENO, b"unknown command\n");
-        return false;
+        out.write_all(b"unknown command\n")?;
+        return Ok(false);
     }
-    io::print_decimal(STDOUT_FILENO, case);
-    answered(command, weighed);
-    io::write_all(STDOUT_FILENO, b"\n");
-    true
+    streams::print_decimal(out, case)?;
+    answered(reader, out, command, weighed)?;
+    out.write_all(b"\n")?;
+    Ok(true)
 }
 
 // The line of one case; false where the command is none.
-fn one_case(case: u64, command: usize) -> bool {
+fn one_case(
+    reader: &mut impl Read,
+    out: &mut impl Write,
+    case: u64,
+    command: usize,
+) -> io::Result<bool> {
     if WEIGHED < command {
-        return case_line(case, command - WEIGHED, true);
+        return case_line(reader, out, case, command - WEIGHED, true);
     }
-    case_line(case, command, false)
+    case_line(reader, out, case, command, false)
 }
 
-// Every case, up to a 0 in a command's place or to where no number is left.
-fn main() {
+// Every case, up to a 0 in a command's place or to where no number is left. A read or a write that fails ends the run with its error.
+fn main(rt: HostRuntime) -> io::Result<()> {
+    let mut reader = BufReader::new(rt.alloc(), rt.reader())?;
+    let mut out = io::writer(&rt);
     for case in 0..CASES {
-        let command = input::number();
+        let command = input::number(&mut reader)?;
         if command == 0 {
-            return;
+            return Ok(());
         }
-        if !one_case(case + 1, command) {
-            return;
+        if !one_case(&mut reader, &mut out, case + 1, command)? {
+            return Ok(());
         }
     }
+    Ok(())
 }

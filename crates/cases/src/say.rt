@@ -1,40 +1,39 @@
 // What the program prints of an answer.
-use libc::STDOUT_FILENO;
 use planner::{Answer, Checked};
+use std::io::{self, Write};
 
 // A word and a number.
-pub fn number(word: &[u8], x: u64) {
-    io::write_all(STDOUT_FILENO, word);
-    io::print_decimal(STDOUT_FILENO, x);
+pub fn number(out: &mut impl Write, word: &[u8], x: u64) -> io::Result<()> {
+    out.write_all(word)?;
+    streams::print_decimal(out, x)
 }
 
 // A check's answer.
-pub fn checked(given: Checked) {
+pub fn checked(out: &mut impl Write, given: Checked) -> io::Result<()> {
     match given {
-        Checked::Accepted => {
-            io::write_all(STDOUT_FILENO, b" accepted");
-        }
-        Checked::Refused(x) => number(b" refused ", x as u64),
+        Checked::Accepted => out.write_all(b" accepted"),
+        Checked::Refused(x) => number(out, b" refused ", x as u64),
     }
 }
 
 // An answer with a total.
-pub fn answer(given: Answer) {
+pub fn answer(out: &mut impl Write, given: Answer) -> io::Result<()> {
     match given {
-        Answer::Total(t) => number(b" total ", t as u64),
-        Answer::Refused(x) => number(b" refused ", x as u64),
+        Answer::Total(t) => number(out, b" total ", t as u64),
+        Answer::Refused(x) => number(out, b" refused ", x as u64),
     }
 }
 
 // The bytes of a list.
-pub fn list(bytes: &[u8]) {
+pub fn list(out: &mut impl Write, bytes: &[u8]) -> io::Result<()> {
     for i in 0..bytes.len() {
-        number(b" ", bytes[i] as u64);
+        number(out, b" ", bytes[i] as u64)?;
     }
+    Ok(())
 }
 
 // A buffer after a call.
-pub fn buffer(word: &[u8], bytes: &[u8]) {
-    io::write_all(STDOUT_FILENO, word);
-    list(bytes);
+pub fn buffer(out: &mut impl Write, word: &[u8], bytes: &[u8]) -> io::Result<()> {
+    out.write_all(word)?;
+    list(out, bytes)
 }

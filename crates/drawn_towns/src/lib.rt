@@ -24,7 +24,7 @@ const MODULUS: u64 = 2147483648;
 
 // A town of n streets and m sites. Its scores are the first m, its rows the first `len`, n times m, and its weights the first `weighed`, which are n
 // except where they are to be refused. Its sites are the numbers 1 to m in any order; the first k of them are its list.
-#[derive(Drop)]
+#[derive(Clone, Copy)]
 pub struct Town {
     pub n: usize,
     pub m: usize,

@@ -11,7 +11,7 @@ use crate::{SITES, STREETS, Town};
 pub const MOST_LOAD: u32 = 1000000;
 
 // One kind of load, kilograms or litres: what each street brings, the first n, and the limit of each site, the first m.
-#[derive(Drop)]
+#[derive(Clone, Copy)]
 pub struct Load {
     pub streets: [u32; STREETS],
     pub limits: [u32; SITES],
@@ -19,7 +19,7 @@ pub struct Load {
 
 // Both kinds. Of the four buffers that are lent, kilograms, litres and the limits of each, the one with the number `short`, from 1 on, lacks its last
 // entry; 0 is none of them.
-#[derive(Drop)]
+#[derive(Clone, Copy)]
 pub struct Loads {
     pub kilograms: Load,
     pub litres: Load,

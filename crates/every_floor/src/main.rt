@@ -4,10 +4,10 @@
 
 ghost use Rattle.std.specs.Prelude.{◌≡◌, ◌≤◌, length};
 
-use libc::STDOUT_FILENO;
 use plain_search::floors;
 use plain_search::scores::wide;
 use planner::Answer;
+use std::io::{self, Write};
 
 // the most sites, and the most bytes of rows
 const SITES: usize = 64;
@@ -112,17 +112,18 @@ fn all_floors(scores: &[u16], weights: &[u8], rows: &mut [u8]) -> u64
 }
 
 // A word and a number on a line.
-fn say(word: &[u8], x: u64) {
-    io::write_all(STDOUT_FILENO, word);
-    io::print_decimal(STDOUT_FILENO, x);
-    io::write_all(STDOUT_FILENO, b"\n");
+fn say(out: &mut impl Write, word: &[u8], x: u64) -> io::Result<()> {
+    out.write_all(word)?;
+    streams::print_decimal(out, x)?;
+    out.write_all(b"\n")
 }
 
-fn main() {
+fn main(rt: HostRuntime) -> io::Result<()> {
     let mut scores = [0u16; SITES];
     let mut weights = [0u8; SITES];
     let mut rows = [0u8; BYTES];
     full_towns::fill_scores(&mut scores);
     full_towns::fill_weights(&mut weights);
-    say(b"right floors ", all_floors(&scores, &weights, &mut rows));
+    let right = all_floors(&scores, &weights, &mut rows);
+    say(&mut io::writer(&rt), b"right floors ", right)
 }

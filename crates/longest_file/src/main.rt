@@ -4,8 +4,8 @@
 
 ghost use Rattle.std.specs.Prelude.{◌≤◌};
 
-use libc::STDOUT_FILENO;
 use planner::{Answer, Read};
+use std::io::{self, Write};
 
 // the bytes of the longest file of each form
 const OLD: usize = 27739;
@@ -35,22 +35,22 @@ fn differences(a: &[u8], b: &[u8]) -> usize {
 }
 
 // A word and a number on a line.
-fn say(word: &[u8], x: u64) {
-    io::write_all(STDOUT_FILENO, word);
-    io::print_decimal(STDOUT_FILENO, x);
-    io::write_all(STDOUT_FILENO, b"\n");
+fn say(out: &mut impl Write, word: &[u8], x: u64) -> io::Result<()> {
+    out.write_all(word)?;
+    streams::print_decimal(out, x)?;
+    out.write_all(b"\n")
 }
 
 // The line of how many bytes differ.
-fn say_differences(word: &[u8], a: &[u8], b: &[u8]) {
-    say(word, differences(a, b) as u64);
+fn say_differences(out: &mut impl Write, word: &[u8], a: &[u8], b: &[u8]) -> io::Result<()> {
+    say(out, word, differences(a, b) as u64)
 }
 
 // The answer of the writer or the converter.
-fn say_made(answer: Answer) {
+fn say_made(out: &mut impl Write, answer: Answer) -> io::Result<()> {
     match answer {
-        Answer::Total(t) => say(b"bytes ", t as u64),
-        Answer::Refused(x) => say(b"refused ", x as u64),
+        Answer::Total(t) => say(out, b"bytes ", t as u64),
+        Answer::Refused(x) => say(out, b"refused ", x as u64),
     }
 }
 
@@ -60,7 +60,7 @@ fn form_number(new_form: bool) -> u64 {
 }
 
 // The reader's answer.
-fn say_read(answer: Read) {
+fn say_read(out: &mut impl Write, answer: Read) -> io::Result<()> {
     match answer {
         Read::Survey {
             n,
@@ -69,62 +69,82 @@ fn say_read(answer: Read) {
             kind,
             new_form,
         } => {
-            say(b"streets ", n as u64);
-            say(b"sites ", m as u64);
-            say(b"chosen ", k as u64);
-            say(b"kind ", kind as u64);
-            say(b"form ", form_number(new_form));
+            say(out, b"streets ", n as u64)?;
+            say(out, b"sites ", m as u64)?;
+            say(out, b"chosen ", k as u64)?;
+            say(out, b"kind ", kind as u64)?;
+            say(out, b"form ", form_number(new_form))
         }
-        Read::Refused(x) => say(b"refused ", x as u64),
+        Read::Refused(x) => say(out, b"refused ", x as u64),
     }
 }
 
 // A file is read, and written again from what was read; weights and rows are those that it was written from.
-fn read_and_written(new_form: bool, file: &[u8], weights: &[u8], rows: &[u8], again: &mut [u8]) {
+fn read_and_written(
+    out: &mut impl Write,
+    new_form: bool,
+    file: &[u8],
+    weights: &[u8],
+    rows: &[u8],
+    again: &mut [u8],
+) -> io::Result<()> {
     let mut table = [0u16; 64];
     let mut counted = [0u8; 400];
     let mut back = [0u8; 25600];
-    say_read(planner::read_file(file, &mut table, &mut counted, &mut back));
-    say_made(planner::write_file(400, 64, 64, 1, new_form, &table, &counted, &back, again));
-    say_differences(b"weights that differ ", weights, &counted);
-    say_differences(b"row bytes that differ ", rows, &back);
-    say_differences(b"file bytes that differ ", file, again);
+    say_read(
+        out,
+        planner::read_file(file, &mut table, &mut counted, &mut back),
+    )?;
+    say_made(
+        out,
+        planner::write_file(400, 64, 64, 1, new_form, &table, &counted, &back, again),
+    )?;
+    say_differences(out, b"weights that differ ", weights, &counted)?;
+    say_differences(out, b"row bytes that differ ", rows, &back)?;
+    say_differences(out, b"file bytes that differ ", file, again)
 }
 
 // The longest file of the old form: converted, it has all weights 1, and conversion back gives the bytes one began with.
-fn old_file(scores: &[u16], rows: &[u8]) {
+fn old_file(out: &mut impl Write, scores: &[u16], rows: &[u8]) -> io::Result<()> {
     let weights = [1u8; 400];
     let mut file = [0u8; OLD];
     let mut again = [0u8; OLD];
     let mut other = [0u8; NEW];
     let mut back = [0u8; OLD];
-    say_made(planner::write_file(400, 64, 64, 1, false, scores, &weights, rows, &mut file));
-    read_and_written(false, &file, &weights, rows, &mut again);
-    say_made(planner::convert_file(&file, true, &mut other));
-    say_made(planner::convert_file(&other, false, &mut back));
-    say_differences(b"file bytes that differ ", &file, &back);
+    say_made(
+        out,
+        planner::write_file(400, 64, 64, 1, false, scores, &weights, rows, &mut file),
+    )?;
+    read_and_written(out, false, &file, &weights, rows, &mut again)?;
+    say_made(out, planner::convert_file(&file, true, &mut other))?;
+    say_made(out, planner::convert_file(&other, false, &mut back))?;
+    say_differences(out, b"file bytes that differ ", &file, &back)
 }
 
 // The longest file: converted to its own form it comes out as it is, and an old one would lose its weights.
-fn new_file(scores: &[u16], rows: &[u8]) {
+fn new_file(out: &mut impl Write, scores: &[u16], rows: &[u8]) -> io::Result<()> {
     let mut weights = [0u8; 400];
     let mut file = [0u8; NEW];
     let mut again = [0u8; NEW];
     let mut own = [0u8; NEW];
     let mut other = [0u8; OLD];
     full_towns::fill_weights(&mut weights);
-    say_made(planner::write_file(400, 64, 64, 1, true, scores, &weights, rows, &mut file));
-    read_and_written(true, &file, &weights, rows, &mut again);
-    say_made(planner::convert_file(&file, true, &mut own));
-    say_differences(b"file bytes that differ ", &file, &own);
-    say_made(planner::convert_file(&file, false, &mut other));
+    say_made(
+        out,
+        planner::write_file(400, 64, 64, 1, true, scores, &weights, rows, &mut file),
+    )?;
+    read_and_written(out, true, &file, &weights, rows, &mut again)?;
+    say_made(out, planner::convert_file(&file, true, &mut own))?;
+    say_differences(out, b"file bytes that differ ", &file, &own)?;
+    say_made(out, planner::convert_file(&file, false, &mut other))
 }
 
-fn main() {
+fn main(rt: HostRuntime) -> io::Result<()> {
     let mut rows = [0u8; 25600];
     let mut scores = [0u16; 64];
     full_towns::fill_rows(&mut rows, 64);
     full_towns::fill_scores(&mut scores);
-    old_file(&scores, &rows);
-    new_file(&scores, &rows);
+    let mut out = io::writer(&rt);
+    old_file(&mut out, &scores, &rows)?;
+    new_file(&mut out, &scores, &rows)
 }

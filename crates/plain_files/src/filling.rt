@@ -7,7 +7,7 @@ use drawn_towns::{BYTES, SITES, Town, WEIGHTS};
 use plain_search::scores;
 
 // A town, the kind of its plan, and whether its file has the new form.
-#[derive(Drop)]
+#[derive(Clone, Copy)]
 pub struct Filed {
     pub town: Town,
     pub kind: u8,

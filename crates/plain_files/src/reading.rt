@@ -4,7 +4,7 @@ ghost use Rattle.std.specs.Prelude.{◌+◌, ◌*◌, ◌≤◌};
 use crate::surveys;
 
 // Where a record ends, and the number that it is refused for.
-#[derive(Drop)]
+#[derive(Clone, Copy)]
 struct Step {
     refused: u8,
     end: usize,

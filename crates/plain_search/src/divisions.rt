@@ -13,7 +13,7 @@ const DIVISIONS: u32 = 390625;
 const NUMBERS: usize = SITES + 1;
 
 // The best balanced division so far, and its total.
-#[derive(Drop)]
+#[derive(Clone, Copy)]
 pub struct Best {
     pub found: bool,
     pub total: u32,

@@ -10,7 +10,7 @@ use drawn_towns::{SITES, STREETS, Town};
 const NUMBERS: usize = SITES + 1;
 
 // A street, 8 for none, with the counted score that it gives the site, and the place.
-#[derive(Drop)]
+#[derive(Clone, Copy)]
 struct First {
     street: usize,
     counted: u32,
@@ -18,7 +18,7 @@ struct First {
 }
 
 // What a site is worth in a round, and the streets that are given away once it has taken its share.
-#[derive(Drop)]
+#[derive(Clone, Copy)]
 struct Worth {
     total: u32,
     given: [bool; STREETS],

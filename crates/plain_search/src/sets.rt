@@ -14,21 +14,21 @@ const SETS: usize = 64;
 pub const UNTOUCHED: u8 = 255;
 
 // A set of sites, and the order in which they were chosen.
-#[derive(Drop)]
+#[derive(Clone, Copy)]
 pub struct Choice {
     pub sites: [u8; SITES],
     pub set: [bool; NUMBERS],
 }
 
 // A site, 0 for none yet, and what it is worth: the total with it.
-#[derive(Drop)]
+#[derive(Clone, Copy)]
 pub struct Site {
     pub number: usize,
     pub worth: u32,
 }
 
 // K^K and (K-1)^K, the factors of the bound.
-#[derive(Drop)]
+#[derive(Clone, Copy)]
 struct Factors {
     own: u64,
     less: u64,

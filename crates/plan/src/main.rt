@@ -1,17 +1,18 @@
 // The plan program: reads a survey file from standard input and prints the listing of its plan, or the line of the refusal.
 #![tactic(auto)]
 
-use libc::{STDIN_FILENO, STDOUT_FILENO};
+use std::io;
+use std::io::Write;
 use survey::Survey;
 
 // one byte more than the longest file has: the bytes behind it change nothing of what is printed
 const FILE: usize = Survey::FILE + 1;
 
-// A read that fails is the end of the input.
-fn main() {
+// A read or a write that fails ends the program with its error.
+fn main(rt: HostRuntime) -> io::Result<()> {
     let mut file = [0u8; FILE];
     let mut out = [0u8; printing::TEXT];
-    let size = io::read_full(STDIN_FILENO, &mut file);
+    let size = streams::read_full(&mut rt.reader(), &mut file)?;
     let end = printing::print(&file[..size], &mut out);
-    io::write_all(STDOUT_FILENO, &out[..end]);
+    io::writer(&rt).write_all(&out[..end])
 }

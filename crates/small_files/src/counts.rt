@@ -1,7 +1,7 @@
 // How often each answer of each call came, and how many answers were not the right ones.
 ghost use Rattle.std.specs.Prelude.{◌≤◌};
 
-use libc::STDOUT_FILENO;
+use std::io::{self, Write};
 
 // a call's outcomes: 0 where it is accepted and all that it leaves is right, else the number of its refusal; behind them, the wrong answers
 pub const OUTCOMES: usize = 27;
@@ -75,40 +75,41 @@ fn compared(counts: &[u64], call: usize) -> u64
 }
 
 // A word and a number on a line.
-pub fn line(word: &[u8], x: u64) {
-    io::write_all(STDOUT_FILENO, word);
-    io::print_decimal(STDOUT_FILENO, x);
-    io::write_all(STDOUT_FILENO, b"\n");
+pub fn line(out: &mut impl Write, word: &[u8], x: u64) -> io::Result<()> {
+    out.write_all(word)?;
+    streams::print_decimal(out, x)?;
+    out.write_all(b"\n")
 }
 
 // The line of a refusal's number, where it came.
-fn refused_line(x: usize, times: u64) {
+fn refused_line(out: &mut impl Write, x: usize, times: u64) -> io::Result<()> {
     if times == 0 {
-        return;
+        return Ok(());
     }
-    io::write_all(STDOUT_FILENO, b"refused ");
-    io::print_decimal(STDOUT_FILENO, x as u64);
-    line(b": ", times);
+    out.write_all(b"refused ")?;
+    streams::print_decimal(out, x as u64)?;
+    line(out, b": ", times)
 }
 
 // The lines of a call.
-fn call_lines(word: &[u8], counts: &[u64], call: usize)
+fn call_lines(out: &mut impl Write, word: &[u8], counts: &[u64], call: usize) -> io::Result<()>
     requires { call ≤ 54 }
 {
-    line(word, compared(counts, call));
-    line(b"accepted: ", count(counts, call));
+    line(out, word, compared(counts, call))?;
+    line(out, b"accepted: ", count(counts, call))?;
     for x in 1..DIFFERENCES {
-        refused_line(x, count(counts, call + x));
+        refused_line(out, x, count(counts, call + x))?;
     }
+    Ok(())
 }
 
 // The lines of all calls, and the differences.
-pub fn lines(counts: &[u64]) {
-    call_lines(b"answers of the writer ", counts, WRITER);
-    call_lines(b"answers of the reader ", counts, READER);
-    call_lines(b"answers of the converter ", counts, CONVERTER);
+pub fn lines(out: &mut impl Write, counts: &[u64]) -> io::Result<()> {
+    call_lines(out, b"answers of the writer ", counts, WRITER)?;
+    call_lines(out, b"answers of the reader ", counts, READER)?;
+    call_lines(out, b"answers of the converter ", counts, CONVERTER)?;
     let differences = count(counts, WRITER + DIFFERENCES)
         + count(counts, READER + DIFFERENCES)
         + count(counts, CONVERTER + DIFFERENCES);
-    line(b"differences ", differences);
+    line(out, b"differences ", differences)
 }

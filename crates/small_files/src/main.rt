@@ -7,6 +7,7 @@ ghost use Rattle.drawn_towns.specs.Small.{Small};
 use drawn_towns::Town;
 use lent::{FILE, UNTOUCHED};
 use plain_files::writing;
+use std::io;
 
 mod converts;
 mod counts;
@@ -63,9 +64,10 @@ fn run(counts: &mut [u64]) {
     }
 }
 
-fn main() {
+fn main(rt: HostRuntime) -> io::Result<()> {
     let mut counts = [0u64; counts::ALL];
     run(&mut counts);
-    counts::line(b"towns ", TOWNS);
-    counts::lines(&counts);
+    let mut out = io::writer(&rt);
+    counts::line(&mut out, b"towns ", TOWNS)?;
+    counts::lines(&mut out, &counts)
 }

@@ -1,16 +1,17 @@
 // What an entry gives for a small town, and what is right for it.
-ghost use Rattle.std.specs.Prelude.{◌≤◌};
+ghost use Rattle.std.specs.Prelude.{◌≤◌, IfOk};
 ghost use Rattle.drawn_towns.specs.Small.{Small};
 
 use crate::say;
 use drawn_towns::{SITES, STREETS, Town};
 use planner::{Answer, Checked};
+use std::io::{self, Write};
 
 // what stands in a buffer before a call
 pub const UNTOUCHED: u8 = 255;
 
 // An answer's total, the number of its refusal, 0 where it is none, and the buffers that come with it.
-#[derive(Drop)]
+#[derive(Clone, Copy)]
 pub struct Given {
     pub total: u32,
     pub refused: u8,
@@ -104,59 +105,71 @@ fn is_right(given: Given, right: Given, n: usize, k: usize) -> bool
 }
 
 // The line of a division of n streets.
-fn division_line(division: [u8; STREETS], n: usize)
+fn division_line(out: &mut impl Write, division: [u8; STREETS], n: usize) -> io::Result<()>
     requires { n ≤ 8 }
 {
-    say::bytes_line(b"division", &division, n);
+    say::bytes_line(out, b"division", &division, n)
 }
 
 // The line of k chosen sites.
-fn chosen_line(chosen: [u8; SITES], k: usize)
+fn chosen_line(out: &mut impl Write, chosen: [u8; SITES], k: usize) -> io::Result<()>
     requires { k ≤ 5 }
 {
-    say::bytes_line(b"chosen", &chosen, k);
+    say::bytes_line(out, b"chosen", &chosen, k)
 }
 
 // The lines of what is given, the first of which begins with a word.
-fn given_lines(word: &[u8], given: Given, n: usize, k: usize)
+fn given_lines(
+    out: &mut impl Write,
+    word: &[u8],
+    given: Given,
+    n: usize,
+    k: usize,
+) -> io::Result<()>
     requires { (n ≤ 8) × (k ≤ 5) }
 {
     let division = given.division;
     let chosen = given.chosen;
-    say::line(word, given.total as u64);
-    say::line(b"refusal ", given.refused as u64);
-    division_line(division, n);
-    chosen_line(chosen, k);
+    say::line(out, word, given.total as u64)?;
+    say::line(out, b"refusal ", given.refused as u64)?;
+    division_line(out, division, n)?;
+    chosen_line(out, chosen, k)
 }
 
 // 1 where what is given for a town is not right, else 0. What is wrong is printed if it is to be shown, and then what is right.
-pub fn wrong(town: Town, given: Given, right: Given, shown: bool) -> u64
+pub fn wrong(
+    out: &mut impl Write,
+    town: Town,
+    given: Given,
+    right: Given,
+    shown: bool,
+) -> io::Result<u64>
     requires { Small town }
-    ensures { result ≤ 1 }
+    ensures { IfOk result (λ x. x ≤ 1) }
 {
     let n = town.n;
     let k = town.k;
     if is_right(given, right, n, k) {
-        return 0;
+        return Ok(0);
     }
     if shown {
-        say::town_lines(town, k);
-        given_lines(b"given total ", given, n, k);
-        given_lines(b"right total ", right, n, k);
+        say::town_lines(out, town, k)?;
+        given_lines(out, b"given total ", given, n, k)?;
+        given_lines(out, b"right total ", right, n, k)?;
     }
-    1
+    Ok(1)
 }
 
 // 1 where a fact doesn't hold of a town, else 0. The town is printed if it is to be shown.
-pub fn fails(town: Town, holds: bool, shown: bool) -> u64
+pub fn fails(out: &mut impl Write, town: Town, holds: bool, shown: bool) -> io::Result<u64>
     requires { Small town }
-    ensures { result ≤ 1 }
+    ensures { IfOk result (λ x. x ≤ 1) }
 {
     if holds {
-        return 0;
+        return Ok(0);
     }
     if shown {
-        say::town_lines(town, town.k);
+        say::town_lines(out, town, town.k)?;
     }
-    1
+    Ok(1)
 }

@@ -1,11 +1,12 @@
 // The balanced entries, compared with a search of all divisions. Where k is above the number of streets they have to refuse, and only there.
-ghost use Rattle.std.specs.Prelude.{◌≤◌};
+ghost use Rattle.std.specs.Prelude.{◌≤◌, IfOk};
 ghost use Rattle.drawn_towns.specs.Small.{Small};
 
 use crate::answers::{Given, UNTOUCHED};
 use crate::{answers, entries};
 use drawn_towns::{SITES, Town};
 use plain_search::{divisions, floors, rounds};
+use std::io::{self, Write};
 
 // Whether the streets are too few to give each of the k sites one.
 fn is_short(town: Town) -> bool
@@ -57,11 +58,12 @@ fn right_floor(town: Town) -> Given
 }
 
 // 1 where the division over the town's list is not right, else 0.
-pub fn wrong_division(town: Town, shown: bool) -> u64
+pub fn wrong_division(out: &mut impl Write, town: Town, shown: bool) -> io::Result<u64>
     requires { Small town }
-    ensures { result ≤ 1 }
+    ensures { IfOk result (λ x. x ≤ 1) }
 {
     answers::wrong(
+        out,
         town,
         entries::division(town, true),
         right_division(town),
@@ -70,9 +72,9 @@ pub fn wrong_division(town: Town, shown: bool) -> u64
 }
 
 // 1 where the floor is not right, else 0.
-pub fn wrong_floor(town: Town, shown: bool) -> u64
+pub fn wrong_floor(out: &mut impl Write, town: Town, shown: bool) -> io::Result<u64>
     requires { Small town }
-    ensures { result ≤ 1 }
+    ensures { IfOk result (λ x. x ≤ 1) }
 {
-    answers::wrong(town, entries::floor(town), right_floor(town), shown)
+    answers::wrong(out, town, entries::floor(town), right_floor(town), shown)
 }

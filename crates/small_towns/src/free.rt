@@ -1,11 +1,12 @@
 // The free entries, compared with totals of sets.
-ghost use Rattle.std.specs.Prelude.{◌≤◌};
+ghost use Rattle.std.specs.Prelude.{◌≤◌, IfOk};
 ghost use Rattle.drawn_towns.specs.Small.{Small};
 
 use crate::answers::{Given, UNTOUCHED};
 use crate::{answers, entries};
 use drawn_towns::{SITES, Town};
 use plain_search::sets;
+use std::io::{self, Write};
 
 // The plan that is right for the town: the sites of the greedy rounds, and where the streets go among them.
 pub fn right_plan(town: Town) -> Given
@@ -23,9 +24,9 @@ pub fn right_plan(town: Town) -> Given
 }
 
 // 1 where the free division over the town's list is another one, else 0.
-pub fn wrong_division(town: Town, shown: bool) -> u64
+pub fn wrong_division(out: &mut impl Write, town: Town, shown: bool) -> io::Result<u64>
     requires { Small town }
-    ensures { result ≤ 1 }
+    ensures { IfOk result (λ x. x ≤ 1) }
 {
     let set = sets::listed(town);
     let right = Given {
@@ -34,14 +35,14 @@ pub fn wrong_division(town: Town, shown: bool) -> u64
         division: sets::division(town, set),
         chosen: [UNTOUCHED; SITES],
     };
-    answers::wrong(town, entries::division(town, false), right, shown)
+    answers::wrong(out, town, entries::division(town, false), right, shown)
 }
 
 // 1 where the list's total is another one, else 0.
-pub fn wrong_total(town: Town, shown: bool) -> u64
+pub fn wrong_total(out: &mut impl Write, town: Town, shown: bool) -> io::Result<u64>
     requires { Small town }
-    ensures { result ≤ 1 }
+    ensures { IfOk result (λ x. x ≤ 1) }
 {
     let right = answers::plain(sets::set_total(town, sets::listed(town)), 0);
-    answers::wrong(town, entries::list_total(town), right, shown)
+    answers::wrong(out, town, entries::list_total(town), right, shown)
 }

@@ -1,17 +1,19 @@
 // Tests of hand-made plans: plans of ours, with the right total and one too high; plans made from them, in which one street has any other site, or
 // one or two streets have another of the plan's sites; and plans that are drawn. Each is tested without loads and with drawn ones.
-ghost use Rattle.std.specs.Prelude.{◌≤◌};
+ghost use Rattle.std.specs.Prelude.{◌≤◌, IfOk};
 ghost use Rattle.drawn_towns.specs.Small.{Small};
 
 use crate::answers::Given;
-use crate::loads::NUMBERS;
-use crate::{answers, entries, loads};
+use crate::load_checks::NUMBERS;
+use crate::{answers, entries, load_checks};
 use drawn_towns::asked::Asked;
 use drawn_towns::{SITES, STREETS, Town};
 use plain_search::scores;
+use std::io::{self, Write};
 
 // How many answers about a plan are wrong: without loads, and with drawn ones.
 fn wrong_test(
+    out: &mut impl Write,
     seed: &mut u64,
     numbers: &mut [u64; NUMBERS],
     town: Town,
@@ -19,21 +21,32 @@ fn wrong_test(
     division: [u8; STREETS],
     claimed: u32,
     shown: bool,
-) -> u64
+) -> io::Result<u64>
     requires { Small town }
-    ensures { result ≤ 3 }
+    ensures { IfOk result (λ x. x ≤ 3) }
 {
     let none = drawn_towns::loads::none();
     let given = entries::hand(town, asked, division, claimed, none);
-    let right = loads::right_answer(town, asked, division, claimed, none);
-    let count = answers::wrong(town, given, right, shown);
-    count + loads::wrong_loaded(seed, numbers, town, asked, division, claimed, given, shown)
+    let right = load_checks::right_answer(town, asked, division, claimed, none);
+    let count = answers::wrong(out, town, given, right, shown)?;
+    Ok(
+        count
+            + load_checks::wrong_loaded(
+                out, seed, numbers, town, asked, division, claimed, given, shown,
+            )?,
+    )
 }
 
 // 1 where a plan of ours does not pass its own test, else 0. Where there is none, the test has to refuse with the same number.
-fn wrong_own(town: Town, asked: Asked, plan: Given, shown: bool) -> u64
+fn wrong_own(
+    out: &mut impl Write,
+    town: Town,
+    asked: Asked,
+    plan: Given,
+    shown: bool,
+) -> io::Result<u64>
     requires { Small town }
-    ensures { result ≤ 1 }
+    ensures { IfOk result (λ x. x ≤ 1) }
 {
     let division = plan.division;
     let given = entries::hand(
@@ -44,27 +57,29 @@ fn wrong_own(town: Town, asked: Asked, plan: Given, shown: bool) -> u64
         drawn_towns::loads::none(),
     );
     let right = answers::plain(plan.total, plan.refused);
-    answers::wrong(town, given, right, shown)
+    answers::wrong(out, town, given, right, shown)
 }
 
 // How many answers about a plan with its own total are wrong.
 fn wrong_with_own_total(
+    out: &mut impl Write,
     seed: &mut u64,
     numbers: &mut [u64; NUMBERS],
     town: Town,
     asked: Asked,
     division: [u8; STREETS],
     shown: bool,
-) -> u64
+) -> io::Result<u64>
     requires { Small town }
-    ensures { result ≤ 3 }
+    ensures { IfOk result (λ x. x ≤ 3) }
 {
     let own = scores::total(town, division);
-    wrong_test(seed, numbers, town, asked, division, own, shown)
+    wrong_test(out, seed, numbers, town, asked, division, own, shown)
 }
 
 // How many answers about plans with one street's site changed are wrong: with their own totals, and with the plan's.
 fn wrong_changed(
+    out: &mut impl Write,
     seed: &mut u64,
     numbers: &mut [u64; NUMBERS],
     town: Town,
@@ -72,15 +87,15 @@ fn wrong_changed(
     division: [u8; STREETS],
     total: u32,
     shown: bool,
-) -> u64
+) -> io::Result<u64>
     requires { Small town }
-    ensures { result ≤ 6 }
+    ensures { IfOk result (λ x. x ≤ 6) }
 {
     let mut changed = division;
     let s = drawn_towns::draw(seed, town.n);
     changed[s] = drawn_towns::draw(seed, town.m + 2) as u8;
-    let count = wrong_with_own_total(seed, numbers, town, asked, changed, shown);
-    count + wrong_test(seed, numbers, town, asked, changed, total, shown)
+    let count = wrong_with_own_total(out, seed, numbers, town, asked, changed, shown)?;
+    Ok(count + wrong_test(out, seed, numbers, town, asked, changed, total, shown)?)
 }
 
 // A division with a drawn street moved to a drawn one of the k chosen sites.
@@ -96,22 +111,23 @@ fn moved(seed: &mut u64, town: Town, division: [u8; STREETS], chosen: [u8; SITES
 
 // How many answers about plans near ours are wrong: one street goes to a site of the plan, and then another one too.
 fn wrong_moved(
+    out: &mut impl Write,
     seed: &mut u64,
     numbers: &mut [u64; NUMBERS],
     town: Town,
     asked: Asked,
     plan: Given,
     shown: bool,
-) -> u64
+) -> io::Result<u64>
     requires { Small town }
-    ensures { result ≤ 6 }
+    ensures { IfOk result (λ x. x ≤ 6) }
 {
     let division = plan.division;
     let chosen = plan.chosen;
     let once = moved(seed, town, division, chosen);
     let twice = moved(seed, town, once, chosen);
-    let count = wrong_with_own_total(seed, numbers, town, asked, once, shown);
-    count + wrong_with_own_total(seed, numbers, town, asked, twice, shown)
+    let count = wrong_with_own_total(out, seed, numbers, town, asked, once, shown)?;
+    Ok(count + wrong_with_own_total(out, seed, numbers, town, asked, twice, shown)?)
 }
 
 // A division that gives each street a drawn site of 1 to m.
@@ -127,38 +143,40 @@ fn drawn(seed: &mut u64, town: Town) -> [u8; STREETS]
 
 // How many answers about a drawn plan are wrong.
 fn wrong_drawn(
+    out: &mut impl Write,
     seed: &mut u64,
     numbers: &mut [u64; NUMBERS],
     town: Town,
     asked: Asked,
     shown: bool,
-) -> u64
+) -> io::Result<u64>
     requires { Small town }
-    ensures { result ≤ 3 }
+    ensures { IfOk result (λ x. x ≤ 3) }
 {
     let division = drawn(seed, town);
-    wrong_with_own_total(seed, numbers, town, asked, division, shown)
+    wrong_with_own_total(out, seed, numbers, town, asked, division, shown)
 }
 
 // How many answers about the town's plan, plans made from it, and a drawn one are wrong.
 pub fn wrong_hands(
+    out: &mut impl Write,
     seed: &mut u64,
     numbers: &mut [u64; NUMBERS],
     town: Town,
     asked: Asked,
     plan: Given,
     shown: bool,
-) -> u64
+) -> io::Result<u64>
     requires { Small town }
-    ensures { result ≤ 22 }
+    ensures { IfOk result (λ x. x ≤ 22) }
 {
     let division = plan.division;
     let total = plan.total;
     let higher = std::num::wrapping_add_u32(total, 1);
-    let mut count = wrong_own(town, asked, plan, shown);
-    count = count + wrong_test(seed, numbers, town, asked, division, total, shown);
-    count = count + wrong_test(seed, numbers, town, asked, division, higher, shown);
-    count = count + wrong_changed(seed, numbers, town, asked, division, total, shown);
-    count = count + wrong_moved(seed, numbers, town, asked, plan, shown);
-    count + wrong_drawn(seed, numbers, town, asked, shown)
+    let mut count = wrong_own(out, town, asked, plan, shown)?;
+    count = count + wrong_test(out, seed, numbers, town, asked, division, total, shown)?;
+    count = count + wrong_test(out, seed, numbers, town, asked, division, higher, shown)?;
+    count = count + wrong_changed(out, seed, numbers, town, asked, division, total, shown)?;
+    count = count + wrong_moved(out, seed, numbers, town, asked, plan, shown)?;
+    Ok(count + wrong_drawn(out, seed, numbers, town, asked, shown)?)
 }

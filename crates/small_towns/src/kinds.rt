@@ -1,16 +1,23 @@
 // Plans and hand plans of wrong kinds, which are refused with 4, or for a wrong size before that.
-ghost use Rattle.std.specs.Prelude.{◌≤◌};
+ghost use Rattle.std.specs.Prelude.{◌≤◌, IfOk};
 ghost use Rattle.drawn_towns.specs.Small.{Small};
 
 use crate::answers::UNTOUCHED;
-use crate::loads::NUMBERS;
-use crate::{answers, entries, loads, say};
+use crate::load_checks::NUMBERS;
+use crate::{answers, entries, load_checks, say};
 use drawn_towns::{STREETS, Town, asked};
+use std::io::{self, Write};
 
 // How many answers about a plan and a hand plan of the wrong kind that has its turn are wrong. The number that is right is counted.
-pub fn wrong_kinds(numbers: &mut [u64; NUMBERS], town: Town, turn: u64, shown: bool) -> u64
+pub fn wrong_kinds(
+    out: &mut impl Write,
+    numbers: &mut [u64; NUMBERS],
+    town: Town,
+    turn: u64,
+    shown: bool,
+) -> io::Result<u64>
     requires { Small town }
-    ensures { result ≤ 2 }
+    ensures { IfOk result (λ x. x ≤ 2) }
 {
     let asked = asked::of_wrong_kind(town, turn);
     let refused = plain_search::asked::refusal(asked);
@@ -25,18 +32,23 @@ pub fn wrong_kinds(numbers: &mut [u64; NUMBERS], town: Town, turn: u64, shown: b
         0,
         drawn_towns::loads::none(),
     );
-    let count = answers::wrong(town, plan, right, shown);
-    count + answers::wrong(town, hand, right, shown)
+    let count = answers::wrong(out, town, plan, right, shown)?;
+    Ok(count + answers::wrong(out, town, hand, right, shown)?)
 }
 
 // The lines that say which numbers the wrong kinds had.
-pub fn lines(numbers: [u64; NUMBERS]) {
+pub fn lines(out: &mut impl Write, numbers: [u64; NUMBERS]) -> io::Result<()> {
     say::line(
+        out,
         b"wrong kinds, of a plan and of a hand plan ",
-        loads::all(numbers),
-    );
-    say::line(b"of these, refused for the streets ", numbers[1]);
-    say::line(b"of these, refused for the sites ", numbers[2]);
-    say::line(b"of these, refused for the sites to choose ", numbers[3]);
-    say::line(b"of these, refused for the kind ", numbers[4]);
+        load_checks::all(numbers),
+    )?;
+    say::line(out, b"of these, refused for the streets ", numbers[1])?;
+    say::line(out, b"of these, refused for the sites ", numbers[2])?;
+    say::line(
+        out,
+        b"of these, refused for the sites to choose ",
+        numbers[3],
+    )?;
+    say::line(out, b"of these, refused for the kind ", numbers[4])
 }

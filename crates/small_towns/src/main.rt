@@ -2,13 +2,14 @@
 // and how many answers were different. The first of these are printed in full.
 #![tactic(auto)]
 
-ghost use Rattle.std.specs.Prelude.{◌≡◌, ◌+◌, ◌≤◌};
+ghost use Rattle.std.specs.Prelude.{◌≡◌, ◌+◌, ◌≤◌, IfOk};
 ghost use Rattle.drawn_towns.specs.Small.{Small};
 ghost use Rattle.small_towns.specs.Counted.{Counted};
 
 use drawn_towns::Town;
-use loads::NUMBERS;
+use load_checks::NUMBERS;
 use sizes::Sizes;
+use std::io::{self, Write};
 
 mod answers;
 mod balanced;
@@ -16,8 +17,8 @@ mod entries;
 mod free;
 mod hands;
 mod kinds;
-mod loads;
-mod plans;
+mod load_checks;
+mod plan_checks;
 mod rows;
 mod say;
 mod sizes;
@@ -45,93 +46,107 @@ struct Counts {
 }
 
 // How many answers about the town's list, and the floor of its k sites, are wrong.
-fn wrong_lists(town: Town, shown: bool) -> u64
+fn wrong_lists(out: &mut impl Write, town: Town, shown: bool) -> io::Result<u64>
     requires { Small town }
-    ensures { result ≤ 4 }
+    ensures { IfOk result (λ x. x ≤ 4) }
 {
-    let mut count = free::wrong_division(town, shown);
-    count = count + free::wrong_total(town, shown);
-    count = count + balanced::wrong_division(town, shown);
-    count + balanced::wrong_floor(town, shown)
+    let mut count = free::wrong_division(out, town, shown)?;
+    count = count + free::wrong_total(out, town, shown)?;
+    count = count + balanced::wrong_division(out, town, shown)?;
+    Ok(count + balanced::wrong_floor(out, town, shown)?)
 }
 
 // How many answers about plans of both kinds, and about damaged surveys of the town are wrong.
-fn wrong_others(seed: &mut u64, numbers: &mut [u64; NUMBERS], town: Town, shown: bool) -> u64
+fn wrong_others(
+    out: &mut impl Write,
+    seed: &mut u64,
+    numbers: &mut [u64; NUMBERS],
+    town: Town,
+    shown: bool,
+) -> io::Result<u64>
     requires { Small town }
-    ensures { result ≤ 54 }
+    ensures { IfOk result (λ x. x ≤ 54) }
 {
-    let mut count = plans::wrong_plans(seed, numbers, town, 0, shown);
-    count = count + plans::wrong_plans(seed, numbers, town, 1, shown);
-    count + surveys::wrong_surveys(seed, town, shown)
+    let mut count = plan_checks::wrong_plans(out, seed, numbers, town, 0, shown)?;
+    count = count + plan_checks::wrong_plans(out, seed, numbers, town, 1, shown)?;
+    Ok(count + surveys::wrong_surveys(out, seed, town, shown)?)
 }
 
 impl Counts {
     // The counts with one number of sites to choose more.
     fn with_choice(
         mut self,
+        out: &mut impl Write,
         seed: &mut u64,
         numbers: &mut [u64; NUMBERS],
         kinds: &mut [u64; NUMBERS],
         town: Town,
-    ) -> Self
+    ) -> io::Result<Self>
         requires small { Small town × Counted self.sizes × (self.sizes.choices ≤ 1000000) }
         requires compared_bound { (self.compared ≤ 2000000) × (self.differences ≤ 2000000) }
-        ensures counted { Counted result.sizes × (result.sizes.choices ≡ self.sizes.choices + 1) }
-        ensures counts { (result.compared ≤ self.compared + 60) × (result.differences ≤ self.differences + 60) }
+        ensures counted { IfOk result (λ r. Counted r.sizes × (r.sizes.choices ≡ self.sizes.choices + 1)) }
+        ensures counts { IfOk result (λ r. (r.compared ≤ self.compared + 60) × (r.differences ≤ self.differences + 60)) }
     {
         let shown = self.differences < SHOWN;
         let sizes = self.sizes;
-        self.differences = self.differences + wrong_lists(town, shown);
-        self.differences = self.differences + wrong_others(seed, numbers, town, shown);
-        self.differences = self.differences + kinds::wrong_kinds(kinds, town, sizes.choices, shown);
+        self.differences = self.differences + wrong_lists(out, town, shown)?;
+        self.differences = self.differences + wrong_others(out, seed, numbers, town, shown)?;
+        self.differences = self.differences
+            + kinds::wrong_kinds(out, kinds, town, sizes.choices, shown)?;
         self.compared = self.compared + ANSWERS;
         self.sizes = sizes.with_choice(town);
-        self
+        Ok(self)
     }
 
     // The counts with the streets of one town more, and with its weights made wrong.
-    fn with_streets(mut self, town: Town) -> Self
+    fn with_streets(mut self, out: &mut impl Write, town: Town) -> io::Result<Self>
         requires { Small town × Counted self.sizes × (self.compared ≤ 1900000) × (self.differences ≤ 1900000) }
-        ensures counted { Counted result.sizes × (result.sizes.choices ≡ self.sizes.choices) }
-        ensures counts { (result.compared ≤ self.compared + 260) × (result.differences ≤ self.differences + 260) }
+        ensures counted { IfOk result (λ r. Counted r.sizes × (r.sizes.choices ≡ self.sizes.choices)) }
+        ensures counts { IfOk result (λ r. (r.compared ≤ self.compared + 260) × (r.differences ≤ self.differences + 260)) }
     {
         let shown = self.differences < SHOWN;
-        self.differences = self.differences + rows::wrong_rows(town, shown);
-        self.differences = self.differences + weights::wrong_weights(town, shown);
+        self.differences = self.differences + rows::wrong_rows(out, town, shown)?;
+        self.differences = self.differences + weights::wrong_weights(out, town, shown)?;
         self.compared = self.compared + STREET_ANSWERS * town.n as u64;
         self.compared = self.compared + WEIGHT_ANSWERS;
-        self
+        Ok(self)
     }
 
     // The counts with one town more, and every number of sites to choose.
     fn with_town(
         mut self,
+        out: &mut impl Write,
         seed: &mut u64,
         numbers: &mut [u64; NUMBERS],
         kinds: &mut [u64; NUMBERS],
         town: Town,
-    ) -> Self
+    ) -> io::Result<Self>
         requires small { Small town × Counted self.sizes × (self.sizes.choices ≤ 100000) }
         requires compared_bound { (self.compared ≤ 1900000) × (self.differences ≤ 1900000) }
-        ensures counted { Counted result.sizes × (result.sizes.choices ≤ self.sizes.choices + 5) }
-        ensures counts { (result.compared ≤ self.compared + 560) × (result.differences ≤ self.differences + 560) }
+        ensures counted { IfOk result (λ r. Counted r.sizes × (r.sizes.choices ≤ self.sizes.choices + 5)) }
+        ensures counts { IfOk result (λ r. (r.compared ≤ self.compared + 560) × (r.differences ≤ self.differences + 560)) }
     {
-        self = self.with_streets(town);
+        self = self.with_streets(out, town)?;
         let sites = town.sites;
         for i in 0..town.m {
             self = self.with_choice(
+                out,
                 seed,
                 numbers,
                 kinds,
                 drawn_towns::listing(town, sites, i + 1),
-            );
+            )?;
         }
-        self
+        Ok(self)
     }
 }
 
 // All towns; the numbers of the hand plans with loads and of the plans of wrong kinds are counted.
-fn run(numbers: &mut [u64; NUMBERS], kinds: &mut [u64; NUMBERS]) -> Counts {
+fn run(
+    out: &mut impl Write,
+    numbers: &mut [u64; NUMBERS],
+    kinds: &mut [u64; NUMBERS],
+) -> io::Result<Counts> {
     let mut seed: u64 = 1;
     let mut counts = Counts {
         sizes: Sizes::none(),
@@ -140,21 +155,22 @@ fn run(numbers: &mut [u64; NUMBERS], kinds: &mut [u64; NUMBERS]) -> Counts {
     };
     for i in 0..TOWNS {
         let town = drawn_towns::draw_town(&mut seed);
-        counts = counts.with_town(&mut seed, numbers, kinds, town);
+        counts = counts.with_town(out, &mut seed, numbers, kinds, town)?;
     }
-    counts
+    Ok(counts)
 }
 
 // Runs all towns and prints the counts.
-fn main() {
+fn main(rt: HostRuntime) -> io::Result<()> {
     let mut numbers = [0u64; NUMBERS];
     let mut kinds = [0u64; NUMBERS];
-    let counts = run(&mut numbers, &mut kinds);
+    let mut out = io::writer(&rt);
+    let counts = run(&mut out, &mut numbers, &mut kinds)?;
     let sizes = counts.sizes;
-    say::line(b"towns ", TOWNS);
-    sizes.lines();
-    loads::lines(numbers);
-    kinds::lines(kinds);
-    say::line(b"answers compared ", counts.compared);
-    say::line(b"differences ", counts.differences);
+    say::line(&mut out, b"towns ", TOWNS)?;
+    sizes.lines(&mut out)?;
+    load_checks::lines(&mut out, numbers)?;
+    kinds::lines(&mut out, kinds)?;
+    say::line(&mut out, b"answers compared ", counts.compared)?;
+    say::line(&mut out, b"differences ", counts.differences)
 }

@@ -1,11 +1,12 @@
 // The entries on one row, compared street by street.
-ghost use Rattle.std.specs.Prelude.{◌+◌, ◌≤◌};
+ghost use Rattle.std.specs.Prelude.{◌+◌, ◌≤◌, IfOk};
 ghost use Rattle.drawn_towns.specs.Small.{Small};
 
 use crate::answers;
 use drawn_towns::Town;
 use plain_files::surveys;
 use plain_search::scores;
+use std::io::{self, Write};
 
 // the sites from 0 on that each row is tried with
 const TRIED: usize = 7;
@@ -28,9 +29,15 @@ fn right_answer(town: Town, s: usize, site: u8) -> answers::Given
 }
 
 // 1 where the score that street s gives a site is another one, else 0.
-pub fn wrong_score(town: Town, s: usize, site: u8, shown: bool) -> u64
+pub fn wrong_score(
+    out: &mut impl Write,
+    town: Town,
+    s: usize,
+    site: u8,
+    shown: bool,
+) -> io::Result<u64>
     requires { Small town × (s ≤ 7) }
-    ensures { result ≤ 1 }
+    ensures { IfOk result (λ x. x ≤ 1) }
 {
     let m = town.m;
     let scores = town.scores;
@@ -39,6 +46,7 @@ pub fn wrong_score(town: Town, s: usize, site: u8, shown: bool) -> u64
     let to = from + m;
     let answer = planner::row_score(m, &scores[..m], town.weights[s], &rows[from..to], site);
     answers::wrong(
+        out,
         town,
         answers::told_alone(answer),
         right_answer(town, s, site),
@@ -69,37 +77,37 @@ fn is_part(row: &[u8], ranked: usize) -> bool {
 }
 
 // 1 where the ranked part of street s is another one, else 0.
-fn wrong_part(town: Town, s: usize, shown: bool) -> u64
+fn wrong_part(out: &mut impl Write, town: Town, s: usize, shown: bool) -> io::Result<u64>
     requires { Small town × (s ≤ 7) }
-    ensures { result ≤ 1 }
+    ensures { IfOk result (λ x. x ≤ 1) }
 {
     let rows = town.rows;
     let from = scores::row_start(s, town.m);
     let to = from + town.m;
     let right = is_part(&rows[from..to], scores::list_length(town, s));
-    answers::fails(town, right, shown)
+    answers::fails(out, town, right, shown)
 }
 
 // The wrong answers for the row of street s and the sites 0 to 6.
-fn wrong_row(town: Town, s: usize, shown: bool) -> u64
+fn wrong_row(out: &mut impl Write, town: Town, s: usize, shown: bool) -> io::Result<u64>
     requires { Small town × (s ≤ 7) }
-    ensures { result ≤ 8 }
+    ensures { IfOk result (λ x. x ≤ 8) }
 {
-    let mut count = wrong_part(town, s, shown);
+    let mut count = wrong_part(out, town, s, shown)?;
     for site in 0..TRIED {
-        count = count + wrong_score(town, s, site as u8, shown);
+        count = count + wrong_score(out, town, s, site as u8, shown)?;
     }
-    count
+    Ok(count)
 }
 
 // The wrong answers for the rows of a town.
-pub fn wrong_rows(town: Town, shown: bool) -> u64
+pub fn wrong_rows(out: &mut impl Write, town: Town, shown: bool) -> io::Result<u64>
     requires { Small town }
-    ensures { result ≤ 64 }
+    ensures { IfOk result (λ x. x ≤ 64) }
 {
     let mut count: u64 = 0;
     for s in 0..town.n {
-        count = count + wrong_row(town, s, shown);
+        count = count + wrong_row(out, town, s, shown)?;
     }
-    count
+    Ok(count)
 }

@@ -3,63 +3,65 @@ ghost use Rattle.std.specs.Prelude.{◌≤◌, length};
 ghost use Rattle.drawn_towns.specs.Small.{Small};
 
 use drawn_towns::Town;
-use libc::STDOUT_FILENO;
+use std::io::{self, Write};
 
 // A word and a number.
-fn say(word: &[u8], x: u64) {
-    io::write_all(STDOUT_FILENO, word);
-    io::print_decimal(STDOUT_FILENO, x);
+fn say(out: &mut impl Write, word: &[u8], x: u64) -> io::Result<()> {
+    out.write_all(word)?;
+    streams::print_decimal(out, x)
 }
 
 // A line of a word and a number.
-pub fn line(word: &[u8], x: u64) {
-    say(word, x);
-    io::write_all(STDOUT_FILENO, b"\n");
+pub fn line(out: &mut impl Write, word: &[u8], x: u64) -> io::Result<()> {
+    say(out, word, x)?;
+    out.write_all(b"\n")
 }
 
 // The next number of a list.
-fn next_number(x: u64) {
-    say(b" ", x);
+fn next_number(out: &mut impl Write, x: u64) -> io::Result<()> {
+    say(out, b" ", x)
 }
 
 // The first bytes of a list.
-fn say_bytes(bytes: &[u8], len: usize)
+fn say_bytes(out: &mut impl Write, bytes: &[u8], len: usize) -> io::Result<()>
     requires { len ≤ length bytes.now }
 {
     for i in 0..len {
-        next_number(bytes[i] as u64);
+        next_number(out, bytes[i] as u64)?;
     }
+    Ok(())
 }
 
 // The first scores of a list.
-fn say_scores(scores: &[u16], len: usize)
+fn say_scores(out: &mut impl Write, scores: &[u16], len: usize) -> io::Result<()>
     requires { len ≤ length scores.now }
 {
     for i in 0..len {
-        next_number(scores[i] as u64);
+        next_number(out, scores[i] as u64)?;
     }
+    Ok(())
 }
 
 // A line of a word and the first bytes of a list.
-pub fn bytes_line(word: &[u8], bytes: &[u8], len: usize)
+pub fn bytes_line(out: &mut impl Write, word: &[u8], bytes: &[u8], len: usize) -> io::Result<()>
     requires { len ≤ length bytes.now }
 {
-    io::write_all(STDOUT_FILENO, word);
-    say_bytes(bytes, len);
-    io::write_all(STDOUT_FILENO, b"\n");
+    out.write_all(word)?;
+    say_bytes(out, bytes, len)?;
+    out.write_all(b"\n")
 }
 
 // A town whose list is its first k sites.
-pub fn town_lines(town: Town, k: usize)
+pub fn town_lines(out: &mut impl Write, town: Town, k: usize) -> io::Result<()>
     requires { Small town × (k ≤ 5) }
 {
     let scores = town.scores;
     let weights = town.weights;
     let rows = town.rows;
     let sites = town.sites;
-    io::write_all(STDOUT_FILENO, b"scores");
-    say_scores(&scores, town.m);
-    bytes_line(b"\nweights", &weights, town.weighed);
-    bytes_line(b"rows", &rows, town.len);
-    bytes_line(b"sites", &sites, k);
+    out.write_all(b"scores")?;
+    say_scores(out, &scores, town.m)?;
+    bytes_line(out, b"\nweights", &weights, town.weighed)?;
+    bytes_line(out, b"rows", &rows, town.len)?;
+    bytes_line(out, b"sites", &sites, k)
 }

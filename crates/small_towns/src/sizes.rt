@@ -5,6 +5,7 @@ ghost use Rattle.small_towns.specs.Counted.{Counted};
 
 use crate::say;
 use drawn_towns::{SITES, STREETS, Town};
+use std::io::{self, Write};
 
 // 1 to 8 streets, and for each of these 1 to 5 sites to choose
 const PAIRS: usize = STREETS * SITES;
@@ -62,11 +63,11 @@ impl Sizes {
     }
 
     // The lines that say it.
-    pub fn lines(self) {
+    pub fn lines(self, out: &mut impl Write) -> io::Result<()> {
         let met = self.met;
-        say::line(b"numbers of sites to choose ", self.choices);
-        say::line(b"of these, not dividing the streets ", self.uneven);
-        say::line(b"of these, above the streets ", self.short);
-        say::line(b"pairs of streets and sites to choose ", count(met));
+        say::line(out, b"numbers of sites to choose ", self.choices)?;
+        say::line(out, b"of these, not dividing the streets ", self.uneven)?;
+        say::line(out, b"of these, above the streets ", self.short)?;
+        say::line(out, b"pairs of streets and sites to choose ", count(met))
     }
 }
