@@ -14,7 +14,7 @@ ghost use Rattle.balanced_rounds.specs.Lines.{Orders, Lines, RoundTables, WellFo
 mod walks;
 
 // The sites chosen so far in order of choice, a flag for each of them, and each street's site, 0 while it is free.
-#[derive(Drop)]
+#[derive(Clone, Copy)]
 pub struct State {
     pub chosen: [u8; counting::SITES],
     pub count: usize,

@@ -9,7 +9,7 @@ ghost use Rattle.counting.specs.Greatest.{greatest};
 ghost use Rattle.choices.specs.Scan.{unflagged, Better};
 
 // The best site so far, and what it is compared by; site 0 while there is none.
-#[derive(Drop)]
+#[derive(Clone, Copy)]
 pub struct Found {
     pub site: usize,
     pub most: u32,

@@ -8,7 +8,7 @@ use call_answers::Answer;
 use file_reader::Checked;
 
 // The answer of the reader: the sizes and the kind of the survey that it has filled in, and whether the file has the new form, which gives the weights.
-#[derive(Drop)]
+#[derive(Clone, Copy)]
 pub enum Read {
     Survey {
         n: usize,

@@ -9,7 +9,7 @@ pub mod reader;
 pub mod records;
 
 // The answer of a check: what the town's record gives, the file's form among it, or the refusal's number.
-#[derive(Drop)]
+#[derive(Clone, Copy)]
 pub enum Checked {
     Sizes {
         n: usize,

@@ -6,7 +6,7 @@ ghost use Rattle.file_reader.specs.Answers.{record_unless, town_answer, street_a
 use crate::fields;
 
 // The record that is due, with what its fields are held against: the numbers of sites and of streets, and the number of the street.
-#[derive(Drop)]
+#[derive(Clone, Copy)]
 pub enum Due {
     Town,
     Scores { m: u8 },
@@ -17,7 +17,7 @@ pub enum Due {
 
 // What reading a record gives: the sizes, the kind and the form of a town, the scores, the weights, the length of a street's list, the end, or the
 // refusal's number.
-#[derive(Drop)]
+#[derive(Clone, Copy)]
 pub enum Record {
     Town {
         n: usize,

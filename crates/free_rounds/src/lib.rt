@@ -15,7 +15,7 @@ pub mod sums;
 
 // The sites chosen so far in order of choice, a flag for each of them, the best score that they give each street,
 // and for each site a bound of what it would raise their total by.
-#[derive(Drop)]
+#[derive(Clone, Copy)]
 pub struct State {
     pub chosen: [u8; counting::SITES],
     pub count: usize,

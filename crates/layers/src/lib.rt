@@ -11,7 +11,7 @@ ghost use Rattle.layers.specs.Layers.{Layerable, Fitting, Layer, Lifts, Taking};
 use pairs::EVEN;
 
 // A site's price, and the street that raised it.
-#[derive(Drop)]
+#[derive(Clone, Copy)]
 pub struct Taken {
     pub price: u32,
     pub street: u16,

@@ -6,7 +6,7 @@ ghost use Rattle.pairs.specs.Moves.{Valued, Row, Better};
 use crate::EVEN;
 
 // A move's gain, and its street.
-#[derive(Drop)]
+#[derive(Clone, Copy)]
 pub struct Gain {
     pub gain: u32,
     pub street: u16,

@@ -6,7 +6,7 @@ ghost use Rattle.counting.specs.Lists.{at, cell};
 ghost use Rattle.rings.specs.Rings.{moved, Moves, Walkable, Walked, Found, Linkable};
 
 // The layer where a closed chain begins, and the number of its moves; no moves where there is no chain.
-#[derive(Drop)]
+#[derive(Clone, Copy)]
 pub struct Ring {
     pub from: usize,
     pub count: usize,

@@ -9,7 +9,7 @@ pub mod weights;
 
 // A survey as a program holds it: the sizes and the kind of plan, then the buffers of the scores, the weights and the rows, of which the first m
 // numbers, the first n bytes and the first n times m bytes count.
-#[derive(Drop)]
+#[derive(Clone, Copy)]
 pub struct Survey {
     pub n: usize,
     pub m: usize,

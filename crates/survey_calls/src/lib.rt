@@ -7,7 +7,7 @@ ghost use Rattle.survey_calls.specs.Calls.{SurveyChecked, RowScored, RankedPart}
 use call_answers::Answer;
 
 // The answer of a check.
-#[derive(Drop)]
+#[derive(Clone, Copy)]
 pub enum Checked {
     Accepted,
     Refused(u8),
