@@ -36,6 +36,9 @@ unfolding checked_unless
 check-accepted r zero sizes e z = refl
 check-accepted r (suc x) sizes e z = absurd (suc-ne-zero x (sym e ∙ z))
 
+-- both, for an answer that is chosen by a number
+pub ruleset checked_steps = (check-refused, check-accepted)
+
 -- an answer has the number that it goes by
 pub check-number : (x : ℕ) (sizes : Checked) → checked_number sizes ≡ 0 → checked_number (checked_unless x sizes) ≡ x
 unfolding checked_unless

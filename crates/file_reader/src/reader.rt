@@ -65,6 +65,7 @@ fn streets_refusal(file: &[u8], from: usize, n: usize, m: u8) -> u8
 }
 
 // The same with the answer to the whole file, where its town has these sizes and all in front is read.
+#[tactic(auto, using(crate::proofs::Whole::checked_steps))]
 fn streets_checked(
     file: &[u8],
     from: usize,
