@@ -2,7 +2,7 @@
  * Bring-site plans: streets, sites and shares. The planner's library for C and every language that can call C.
  *
  * COMPILE AND LINK, as C99 or C++11 or later, on 64-bit x86 Linux:
- *   cc -Iinclude town.c target/staticlib/libplanner_c.a      in a clone, after `rt staticlib planner_c`, which proves the archive
+ *   cc -Iinclude town.c target/staticlib/libplanner_c.a      in a clone, after `bindings/archive`, which proves the archive
  *   cc town.c $(pkg-config --cflags --libs planner)          after `bindings/install`, with the shared library
  *   cc town.c $(pkg-config --cflags planner) $(pkg-config --variable=archive planner)      the same, with the archive
  * A whole program to start from is bindings/c/plan_file.c.
@@ -96,14 +96,14 @@ extern "C" {
 #define PLANNER_STACK_CHECK_SURVEY 3072
 #define PLANNER_STACK_RANKED_PART 512
 #define PLANNER_STACK_ROW_SCORE 1024
-#define PLANNER_STACK_LIST_TOTAL 60928
-#define PLANNER_STACK_FREE_DIVISION 61440
-#define PLANNER_STACK_BALANCED_DIVISION 296960
-#define PLANNER_STACK_FREE_PLAN 61440
-#define PLANNER_STACK_BALANCED_PLAN 299008
+#define PLANNER_STACK_LIST_TOTAL 61952
+#define PLANNER_STACK_FREE_DIVISION 62464
+#define PLANNER_STACK_BALANCED_DIVISION 299008
+#define PLANNER_STACK_FREE_PLAN 62464
+#define PLANNER_STACK_BALANCED_PLAN 301056
 #define PLANNER_STACK_FLOOR 11264
-#define PLANNER_STACK_FREE_HAND_PLAN 5120
-#define PLANNER_STACK_BALANCED_HAND_PLAN 5120
+#define PLANNER_STACK_FREE_HAND_PLAN 6144
+#define PLANNER_STACK_BALANCED_HAND_PLAN 6144
 #define PLANNER_STACK_WRITE_FILE 3072
 #define PLANNER_STACK_READ_FILE 1536
 #define PLANNER_STACK_CONVERT_FILE 1024

@@ -1,4 +1,4 @@
-//! Finds the archive that `rt staticlib planner_c` wrote: in the folder that PLANNER_C_DIR names, else in this repository's target/.
+//! Finds the archive that `bindings/archive` wrote: in the folder that PLANNER_C_DIR names, else in this repository's target/.
 use std::env;
 use std::path::{Path, PathBuf};
 
@@ -32,7 +32,7 @@ fn missing(folder: &Path) -> String {
     // behind a colon rustc reads another name
     let folder = folder.display().to_string().replace(':', "?");
     format!(
-        "planner_c (there is no libplanner_c.a in {folder}; run `rt staticlib planner_c` at the root of the planner's repository, \
+        "planner_c (there is no libplanner_c.a in {folder}; run `bindings/archive` at the root of the planner's repository, \
          or let PLANNER_C_DIR name the folder that has it, by its whole path)"
     )
 }
