@@ -20,9 +20,9 @@ part from to xs = mid_of from (to - from) xs
 abbrev pub put : ℕ → ℕ → List ℕ → List ℕ → List ℕ
 put from to xs ys = put_mid from (to - from) xs ys
 
-module _ (from to : ℕ) (xs : List ℕ) (in_List : to ≤ length xs) where
+module _ (from to : ℕ) (xs : List ℕ) (in_list : to ≤ length xs) where
   pub part_length : length (part from to xs) ≡ to - from
-  part_length = mid_len from to xs in_List
+  part_length = mid_len from to xs in_list
 
   -- what stands in the part
   pub part_at : (i : ℕ) → from + i < to → at (part from to xs) i ≡ at xs (from + i)

@@ -1,4 +1,5 @@
 use mathlib.Core.Path.{sym, ◌∙◌}
+use borrow.Author.Rules.{rules}
 use Rattle.survey.specs.Town.{town_of}
 use Rattle.survey.specs.Accepted.{Accepted}
 use Rattle.survey.proofs.Sound.{accepted}
@@ -8,10 +9,7 @@ use Rattle.file_refusals.proofs.WriteTries.{write-stop, write-lost, write-pass}
 use Rattle.file_refusals.proofs.write_refusal.Goals as goal
 
 pub returns-then-r-ne0 : goal.returns-then-r-ne0
-returns-then-r-ne0 c =
-    let given : WriteInput = let a = c.args in
-    write_of (filed_of a.new_form (town_of a.n a.m a.scores.now a.weights.now a.rows.now) a.k a.kind) a.file.now in
-    write-stop (given) _ c.kind_refusal-own.ensures _ c.survey_refusal-r.ensures c.if-r-ne0.true
+returns-then-r-ne0 c = search (rules, write-stop) depth 12
 
 pub returns-then-lost-ne0 : goal.returns-then-lost-ne0
 returns-then-lost-ne0 c =
