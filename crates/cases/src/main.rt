@@ -3,7 +3,7 @@
 // the weight 1. No case has a list that is longer than its buffer.
 #![tactic(auto)]
 
-use std::io::{self, BufReader, Read, Write};
+use std::io::{self, Read, Write};
 
 mod files;
 mod hands;
@@ -140,7 +140,7 @@ fn one_case(
 
 // Every case, up to a 0 in a command's place or to where no number is left. A read or a write that fails ends the run with its error.
 fn main(rt: HostRuntime) -> io::Result<()> {
-    let mut reader = BufReader::new(rt.alloc(), rt.reader())?;
+    let mut reader = rt.reader();
     let mut out = io::writer(&rt);
     for case in 0..CASES {
         let command = input::number(&mut reader)?;
