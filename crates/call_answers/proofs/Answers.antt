@@ -1,4 +1,4 @@
--- Laws of the answers, from the number x that a call's tries gave.
+-- Laws of the answers, from the number that a call's tries gave.
 -- Assumes nothing.
 use mathlib.Core.Path.{◌≡◌, refl, sym, ap, ◌∙◌}
 use mathlib.Core.Bool.{true}
@@ -7,13 +7,13 @@ use Prim.Native.Nat.{ℕ, zero, suc}
 use native.Mathlib.Nat.{suc-ne-zero}
 use lib.Dec.{eqb}
 use borrow.Author.Tests.{eq-eqb, ne_eqb, eqb-true}
+use Rattle.std.specs.Prelude.{Result, Ok, Err}
 use Rattle.counting.specs.Words.{◌when◌}
 use Rattle.counting.specs.Buffers.{after}
 use Rattle.counting.proofs.Refusals.{when-yes, when-none}
-use Rattle.refusals.specs.Refusals.{Tried}
-use Rattle.call_answers.specs.declared.Answer.{Answer}
-use Rattle.call_answers.specs.declared.Answer.TheVariants as answer
-use Rattle.call_answers.specs.Answers.{Told, accepts, total}
+use Rattle.call_answers.specs.declared.Refusal.{Refusal}
+use Rattle.call_answers.specs.Answers.{Told, Tried, number_of, accepts, total}
+use Rattle.call_answers.proofs.Refused.{numbered}
 
 -- what the buffer holds after a refusal x, and after none
 kept-after : (x : ℕ) (new old : List ℕ) → (x ≡ 0 → ⊥) → old ≡ after x new old
@@ -25,7 +25,7 @@ new-after zero new old now z q = q
 new-after (suc x) new old now z q = absurd (suc-ne-zero x z)
 
 -- what a call gives by another name, which it has where nothing is refused
-pub told_same : {r : Answer} {x t u : ℕ} → (x ≡ 0 → t ≡ u) → Told r x t → Told r x u
+pub told_same : {r : Result ℕ Refusal} {x t u : ℕ} → (x ≡ 0 → t ≡ u) → Told r x t → Told r x u
 told_same {r} {x} {t} {u} h told =
     record { right-number = told.right-number; right-case = told.right-case; right-total = told.right-total ∙ due x h }
   where
@@ -40,7 +40,7 @@ after_same zero new other old h = h refl
 after_same (suc x) new other old h = refl
 
 -- an acceptance says that nothing is refused, with the total that is due and the new bytes in a lent buffer
-module _ {r : Answer} {x t : ℕ} (told : Told r x t) (y : accepts r ≡ true) where
+module _ {r : Result ℕ Refusal} {x t : ℕ} (told : Told r x t) (y : accepts r ≡ true) where
   pub told-passed : x ≡ 0
   told-passed = eqb-true x 0 (sym told.right-case ∙ y)
 
@@ -50,26 +50,25 @@ module _ {r : Answer} {x t : ℕ} (told : Told r x t) (y : accepts r ≡ true) w
   pub told-new : (new old : List ℕ) {now : List ℕ} → now ≡ after x new old → now ≡ new
   told-new new old e = e ∙ sym (new-after x new old new told-passed refl)
 
-module _ {A : Type 0} {chain : A → ℕ} {i : A} {x : ℕ} (tried : Tried chain i x) where
-  module _ (h : x ≡ 0 → ⊥) where
-    -- a refusal, with the total 0
-    pub told-refused : {t : ℕ} → Told (answer.Refused x) (chain i) t
-    told-refused {t} =
-        let none : eqb (chain i) 0 ≡ _ = ne_eqb (chain i) 0 (λ z. h (tried.first ∙ z)) in
-        record { right-number = tried.first; right-case = sym none; right-total = when-none t (eqb (chain i) 0) none }
+module _ {A : Type 0} {chain : A → ℕ} {i : A} (e : Refusal) (tried : Tried chain i (number_of e)) where
+  -- a refusal, with the total 0
+  pub told-refused : {t : ℕ} → Told (Err e) (chain i) t
+  told-refused {t} =
+      let none : eqb (chain i) 0 ≡ _ = ne_eqb (chain i) 0 (λ z. numbered e (tried.first ∙ z)) in
+      record { right-number = tried.first; right-case = sym none; right-total = when-none t (eqb (chain i) 0) none }
 
-    -- a lent buffer holds what it held
-    pub kept-refused : (new old : List ℕ) → old ≡ after (chain i) new old
-    kept-refused new old = kept-after (chain i) new old (λ z. h (tried.first ∙ z))
+  -- a lent buffer holds what it held
+  pub kept-refused : (new old : List ℕ) → old ≡ after (chain i) new old
+  kept-refused new old = kept-after (chain i) new old (λ z. numbered e (tried.first ∙ z))
 
-  module _ (z : x ≡ 0) where
-    -- an acceptance, with the total that is due
-    pub told-total : {s t : ℕ} → s ≡ t → Told (answer.Total s) (chain i) t
-    told-total {s} {t} q =
-        let passed : chain i ≡ 0 = sym tried.first ∙ z in
-        let yes : eqb (chain i) 0 ≡ _ = eq-eqb (chain i) 0 passed in
-        record { right-number = sym passed; right-case = sym yes; right-total = q ∙ when-yes t (eqb (chain i) 0) yes }
+module _ {A : Type 0} {chain : A → ℕ} {i : A} (tried : Tried chain i 0) where
+  -- an acceptance, with the total that is due
+  pub told-total : {s t : ℕ} → s ≡ t → Told (Ok s) (chain i) t
+  told-total {s} {t} q =
+      let passed : chain i ≡ 0 = sym tried.first in
+      let yes : eqb (chain i) 0 ≡ _ = eq-eqb (chain i) 0 passed in
+      record { right-number = sym passed; right-case = sym yes; right-total = q ∙ when-yes t (eqb (chain i) 0) yes }
 
-    -- a lent buffer holds the new bytes
-    pub new-accepted : (new old : List ℕ) {now : List ℕ} → now ≡ new → now ≡ after (chain i) new old
-    new-accepted new old {now} q = new-after (chain i) new old now (sym tried.first ∙ z) q
+  -- a lent buffer holds the new bytes
+  pub new-accepted : (new old : List ℕ) {now : List ℕ} → now ≡ new → now ≡ after (chain i) new old
+  new-accepted new old {now} q = new-after (chain i) new old now (sym tried.first) q

@@ -13,7 +13,6 @@ use lib.Seq.{take-suc, drop-cons, append_snoc, take-length, drop-length}
 use borrow.Author.Tests.{ne_eqb}
 use Rattle.counting.specs.Lists.{at, has}
 use Rattle.counting.specs.Flags.{Flags}
-use Rattle.counting.proofs.Sums.{at-past}
 use Rattle.counting.proofs.Flagging.{flags-more}
 use Rattle.survey.specs.Rows.{ranked_part, row_at}
 use Rattle.survey.specs.Refusals.{site_refusal, byte_refusal}
@@ -49,7 +48,3 @@ byte-is m row seen j r h l e =
 -- ---- parts of the flat buffer
 pub row-part : (m : ℕ) (rows : List ℕ) (i : ℕ) → take (i * m + m - i * m) (drop (i * m) rows) ≡ row_at m rows i
 row-part m rows i = ap (λ (z : ℕ). take z (drop (i * m) rows)) (add-sub_cancel_left (i * m) m)
-
--- a place past the scores scores 0
-pub past-score : (scores : List ℕ) (place : ℕ) → length scores < place → 0 ≡ at scores (place - 1)
-past-score scores place l = sym (at-past scores (place - 1) (omega arith))

@@ -1,11 +1,60 @@
-// The survey: its bounds, its rows and scores, and its weights.
+// The survey: its bounds, its rows and scores, its weights, and the kinds of plan that are made of it.
 #![tactic(auto)]
 
-ghost use Rattle.std.specs.Prelude.{◌≡◌, replicate};
+ghost use Rattle.std.specs.Prelude.{◌≡◌, ◌+◌, ◌*◌, ◌≤◌, length, replicate};
 ghost use Rattle.counting.specs.Bounds.{most_streets, most_sites, top_score, top_weight, most_rows};
+ghost use Rattle.survey.specs.Town.{lent};
+ghost use Rattle.survey.specs.Rows.{row_of};
+ghost use Rattle.survey.specs.ByKind.{Decodes};
 
+use call_answers::Refusal;
+
+pub mod accepted;
 pub mod rows;
 pub mod weights;
+
+// What the streets and the survey team hand in, as a caller lends it: n streets and m sites, a score for each place, a household weight for each
+// street, and the streets' rows of m bytes, one behind the other.
+#[derive(Clone, Copy)]
+pub struct Town<'a> {
+    pub n: usize,
+    pub m: usize,
+    pub scores: &'a [u16],
+    pub weights: &'a [u8],
+    pub rows: &'a [u8],
+}
+
+impl<'a> Town<'a> {
+    // The row of the street s.
+    pub fn row(self, s: usize) -> &'a [u8]
+        requires { s * self.m + self.m ≤ length self.rows.now }
+        ensures { result.now ≡ row_of (lent self.entry) s }
+    {
+        let from = s * self.m;
+        &self.rows[from..from + self.m]
+    }
+}
+
+// The kinds of plan.
+#[derive(Clone, Copy, Debug, PartialEq, Eq)]
+pub enum Kind {
+    Free,
+    Balanced,
+}
+
+impl TryFrom<usize> for Kind {
+    type Error = Refusal;
+
+    ghost try_from_gives = { Decodes };
+
+    fn try_from(number: usize) -> Result<Kind, Refusal> {
+        match number {
+            0 => Ok(Kind::Free),
+            1 => Ok(Kind::Balanced),
+            _ => Err(Refusal::Kind),
+        }
+    }
+}
 
 // A survey as a program holds it: the sizes and the kind of plan, then the buffers of the scores, the weights and the rows, of which the first m
 // numbers, the first n bytes and the first n times m bytes count.

@@ -7,8 +7,8 @@ pub fn ranked(row: &[u8]) -> &[u8]
     ensures bytes { result.now ≡ ranked_part row.now }
     ensures place { result.ref_ptr ≡ row.entry.ref_ptr }
 {
-    for i in 0..row.len() {
-        if row[i] == 0 {
+    for (i, site) in row.iter().enumerate() {
+        if *site == 0 {
             return &row[..i];
         }
     }
@@ -16,11 +16,12 @@ pub fn ranked(row: &[u8]) -> &[u8]
 }
 
 // The place of a site in a list, 1 the best; 0 where the list has no such site.
+#[tactic(auto, using(counting::proofs::Refusals::scan))]
 pub fn place_in(list: &[u8], site: u8) -> usize
     ensures { result ≡ place_in list.now site }
 {
-    for i in 0..list.len() {
-        if list[i] == site {
+    for (i, ranked) in list.iter().enumerate() {
+        if *ranked == site {
             return i + 1;
         }
     }
@@ -35,16 +36,14 @@ pub fn place(row: &[u8], site: u8) -> usize
 }
 
 // The score at a place; no place, and a place past the scores, scores 0.
+#[tactic(auto, using(counting::proofs::Refusals::chain))]
 pub fn score_at(scores: &[u16], place: usize) -> u16
     ensures { result ≡ score_at scores.now place }
 {
     if place == 0 {
         return 0;
     }
-    if scores.len() < place {
-        return 0;
-    }
-    scores[place - 1]
+    scores.get(place - 1).copied().unwrap_or(0)
 }
 
 // The score that a row gives a site: a site that is not ranked scores 0.
@@ -58,5 +57,5 @@ pub fn score(scores: &[u16], row: &[u8], site: u8) -> u16
 pub fn counted(weight: u8, scores: &[u16], row: &[u8], site: u8) -> u32
     ensures { result ≡ counted_of weight scores.now row.now site }
 {
-    weight as u32 * score(scores, row, site) as u32
+    u32::from(weight) * u32::from(score(scores, row, site))
 }

@@ -1,0 +1,55 @@
+-- Laws of chains of tries: a chain is left at a `?` with the refusal's number, and goes on where a try accepts.
+-- Assumes nothing.
+use mathlib.Core.Path.{◌≡◌, refl, sym}
+use Prim.Native.Nat.{ℕ, ◌≤◌, ◌<◌}
+use native.Mathlib.Omega.{arith}
+use Rattle.counting.specs.Words.{◌or_else◌, first_nonzero}
+use Rattle.counting.proofs.Refusals.{or-stop, or-pass, first-start, first_found, first_done, first-quiet}
+use Rattle.call_answers.specs.declared.Refusal.{Refusal}
+use Rattle.call_answers.specs.declared.Refusal.TheVariants as refusal
+use Rattle.call_answers.specs.Answers.{number_of}
+
+-- no refusal has the number 0
+pub numbered : (e : Refusal) → number_of e ≡ 0 → ⊥
+numbered refusal.Streets h = omega arith
+numbered refusal.Sites h = omega arith
+numbered refusal.Chosen h = omega arith
+numbered refusal.Kind h = omega arith
+numbered refusal.Share h = omega arith
+numbered refusal.Length h = omega arith
+numbered refusal.Room h = omega arith
+numbered refusal.Score h = omega arith
+numbered refusal.Gap h = omega arith
+numbered refusal.Number h = omega arith
+numbered refusal.Twice h = omega arith
+numbered refusal.Short h = omega arith
+numbered refusal.Mark h = omega arith
+numbered refusal.Turn h = omega arith
+numbered refusal.Long h = omega arith
+numbered refusal.Behind h = omega arith
+numbered refusal.Range h = omega arith
+numbered refusal.Usage h = omega arith
+numbered refusal.Claim h = omega arith
+numbered refusal.Again h = omega arith
+numbered refusal.Load h = omega arith
+numbered refusal.Kilograms h = omega arith
+numbered refusal.Litres h = omega arith
+numbered refusal.Weight h = omega arith
+numbered refusal.Lost h = omega arith
+
+-- a chain whose first try refuses, and one whose first try accepts
+pub or-refused : (e : Refusal) (a b : ℕ) → number_of e ≡ a → a or_else b ≡ number_of e
+or-refused e a b q = sym (or-stop (number_of e) a b q (λ z. numbered e z))
+
+pub or-accepted : (a b : ℕ) → 0 ≡ a → a or_else b ≡ b
+or-accepted a b h = sym (or-pass b 0 a b h refl refl)
+
+-- the first refusal of a loop, and a loop that ends
+pub loop-refused : (i n : ℕ) (f : ℕ → ℕ) (e : Refusal) → i < n → first_nonzero i f ≡ 0 → number_of e ≡ f i → first_nonzero n f ≡ number_of e
+loop-refused i n f e l z q = sym (first_found i n f (number_of e) l z q (λ w. numbered e w))
+
+pub loop_done : (i n : ℕ) (f : ℕ → ℕ) → n ≤ i → i ≤ n → first_nonzero i f ≡ 0 → first_nonzero n f ≡ 0
+loop_done i n f l k z = sym (first_done i n f l k z)
+
+-- what a chain of tries needs, each a `?`
+pub ruleset tries = (or-refused, or-accepted, loop-refused, first-start, first-quiet, loop_done)
