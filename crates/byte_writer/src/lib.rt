@@ -9,10 +9,7 @@ pub fn write_list(list: &[u8], out: &mut [u8], i: usize) -> usize
     requires { i + length list.now ≤ length out.old }
     ensures { Written out.old i list.now out.new result }
 {
-    let mut next = i;
-    for j in 0..list.len() {
-        out[next] = list[j];
-        next = next + 1;
-    }
+    let next = i + list.len();
+    out[i..next].copy_from_slice(list);
     next
 }

@@ -1,6 +1,7 @@
-use borrow.Author.Rules.{rules}
 use native.Mathlib.Omega.{arith}
-use mathlib.Core.Path.{refl}
+use mathlib.Core.Path.{◌≡◌, refl, ap, ◌∙◌}
+use lib.ListN.{length}
+use Rattle.survey.specs.Rows.{ranked_part}
 use Prim.Native.Nat.{ℕ, ◌+◌, ◌*◌, ◌≤◌}
 use Rattle.counting.specs.Bounds.{most_streets}
 use Rattle.counting.proofs.Equations.{along}
@@ -11,20 +12,18 @@ use Rattle.file_writer.proofs.file_length.Goals as goal
 
 pub loop-s-init : goal.loop-s-init
 loop-s-init c =
-    let most : weights_size c.args.new_form c.args.n ≤ 2 + most_streets = omega (arith, size-most c.args.new_form c.args.n, c.requires.0) in (
-      search rules,
-      along (λ (x : ℕ). Sized (weights_size c.args.new_form c.args.n) c.args.m c.args.rows.now 0 (11 + 2 * c.args.m + x))
-          c.weights_size.ensures (sized-none _ _ _ c.requires.1 (most)),
-    )
+    let t = c.args.accepted.town in
+    let size = weights_size c.args.new_form t.n in
+    let most : size ≤ 2 + most_streets = omega (arith, size-most c.args.new_form t.n, c.args.accepted.accepted.few-streets) in
+    along (λ (x : ℕ). Sized size t.m t.rows.now 0 (11 + 2 * t.m + x)) c.weights_size.ensures (sized-none _ _ _ c.args.accepted.accepted.few-sites most)
 
 pub loop-s-preserved : goal.loop-s-preserved
 loop-s-preserved c =
-    let p = c.requires in
+    let t = c.args.accepted.town in
     let l = c.loop-s in
-    (omega arith, sized-more l.invariant.1 _ p.1 c.list_of.ensures)
+    let sum : l.size + (5 + length c.ranked.result.now) ≡ l.size + 5 + length c.ranked.result.now = omega arith in
+    along (λ (x : ℕ). Sized (weights_size c.args.new_form t.n) t.m t.rows.now (l.s + 1) x) sum
+    (sized-more l.invariant _ c.args.accepted.accepted.few-sites (c.ranked.ensures.bytes ∙ ap ranked_part c.row.ensures))
 
 pub returns : goal.returns
-returns c =
-    let l = c.loop-s in
-    let a = c.args in
-    sized-all l.invariant.1 a.new_form a.n (omega arith) (omega arith) refl
+returns c = let a = c.args in sized-all c.loop-s.invariant a.new_form a.accepted.town.n (omega arith) (omega arith) refl
