@@ -11,24 +11,25 @@ use lib.Seq.{drop-drop}
 use Rattle.counting.specs.Words.{◌or_else◌, first_nonzero}
 use Rattle.counting.specs.Lists.{at}
 use Rattle.counting.proofs.Refusals.{or-stop, or-pass, or-zero, first_found, first_next}
+use Rattle.call_answers.specs.declared.Refusal.{Refusal}
+use Rattle.call_answers.specs.Answers.{number_of}
+use Rattle.call_answers.proofs.Refused.{numbered}
 use Rattle.survey_file.specs.Encode.{street_mark, end_mark}
 use Rattle.survey_file.specs.Decode.{mark_refusal, street_fields, end_fields, past, street_record, streets_and_end}
 use Rattle.file_reader.specs.declared.records.Due.TheVariants as due
-use Rattle.file_reader.specs.declared.records.Record.{Record}
 use Rattle.file_reader.specs.declared.records.Record.TheVariants as got
-use Rattle.file_reader.specs.Answers.{mark_of, record_refusal, record_of, number_of}
-use Rattle.file_reader.proofs.Reading.{street-long, number_is, some-refusal, no-refusal, street-part}
+use Rattle.file_reader.specs.Answers.{mark_of, street_answer, record_refusal}
+use Rattle.file_reader.proofs.Reading.{street-long, street-part}
 
--- what a street that was read tells: it is not refused, its list has the length, and the next record begins within the file
-pub street-taken : (file : List ℕ) (m number here size : ℕ) → got.Street size ≡ record_of (due.Street m number) (drop here file)
-    → (record_refusal (due.Street m number) (drop here file) ≡ 0) × (size ≡ at (drop here file) 4) × (here + 5 + size ≤ length file)
+-- what a street that was read tells: its list has the length, and the next record begins within the file
+pub street-taken : (file : List ℕ) (m number here size : ℕ) → 0 ≡ record_refusal (due.Street m number) (drop here file)
+    → got.Street size ≡ street_answer (drop here file) → (size ≡ at (drop here file) 4) × (here + 5 + size ≤ length file)
 unfolding mark_of
-street-taken file m number here size e =
+street-taken file m number here size quiet e =
     let rest : List ℕ = drop here file in
-    let (quiet, fields) = no-refusal (due.Street m number) rest (got.Street size) e (λ x q. cc) in
-    let part : size ≡ at rest 4 = street-part rest size fields in
-    let long = street-long m number rest _ refl (or-zero (mark_refusal street_mark rest) (street_fields m number rest) quiet).1 in
-    (quiet, part, omega (arith, part, length-drop here file))
+    let part : size ≡ at rest 4 = street-part rest size e in
+    let long = street-long m number rest (sym (or-zero (mark_refusal street_mark rest) (street_fields m number rest) (sym quiet)).1) in
+    (part, omega (arith, part, length-drop here file))
 
 -- no street record is read yet
 pub past-none : (streets : List ℕ) → streets ≡ past streets 0
@@ -46,30 +47,27 @@ module _ (file streets : List ℕ) (m here i : ℕ) (rest-is : drop here file �
       ∙ ap (λ (rest : List ℕ). mark_refusal street_mark rest or_else street_fields m (suc i) rest) rest-is
 
   -- past the record the rest is that of one street more
-  pub street-past : (size : ℕ) → size ≡ at (drop here file) 4 → drop (here + 5 + size) file ≡ past streets (i + 1)
+  pub street-past : (size : ℕ) → size ≡ at (drop here file) 4 → drop (here + (5 + size)) file ≡ past streets (i + 1)
   unfolding past
   street-past size e =
       let next : i + 1 ≡ suc i = add-one i in
-      let sum : here + 5 + size ≡ here + (5 + at (drop here file) 4) = omega arith in
+      let sum : here + (5 + size) ≡ here + (5 + at (drop here file) 4) = omega arith in
       ap (λ (k : ℕ). drop k file) sum
       ∙ sym (drop-drop (5 + at (drop here file) 4) here file)
       ∙ ap (λ (rest : List ℕ). drop (5 + at rest 4) rest) rest-is
       ∙ ap (past streets) (sym next)
 
-  -- an answer that is no street ends the walk
-  pub street-stops : (n r : ℕ) (answer : Record) → i < n → first_nonzero i (street_record m streets) ≡ 0
-      → answer ≡ record_of (due.Street m (i + 1)) (drop here file) → ((size : ℕ) → answer ≡ got.Street size → ⊥) → r ≡ number_of answer
-      → r ≡ streets_and_end n m streets
-  street-stops n r answer l quiet is other e =
-      let number = number_is (due.Street m (i + 1)) (drop here file) answer is r e in
-      let some : r ≡ 0 → ⊥ = λ z. some-refusal (due.Street m (i + 1)) (drop here file) answer is (other _) (sym number ∙ z) in
-      or-stop r (first_nonzero n (street_record m streets)) (mark_refusal end_mark (past streets n) or_else end_fields (past streets n))
-      (first_found i n (street_record m streets) r l quiet (street-is r number) some) some
+  -- a record that is refused ends the walk
+  pub street-stops : (n : ℕ) (e : Refusal) → i < n → first_nonzero i (street_record m streets) ≡ 0
+      → number_of e ≡ record_refusal (due.Street m (i + 1)) (drop here file) → number_of e ≡ streets_and_end n m streets
+  street-stops n e l quiet is =
+      or-stop (number_of e) (first_nonzero n (street_record m streets)) (mark_refusal end_mark (past streets n) or_else end_fields (past streets n))
+      (first_found i n (street_record m streets) (number_of e) l quiet (street-is (number_of e) is) (numbered e)) (numbered e)
 
   -- one that is not leads on
-  pub street-passes : first_nonzero i (street_record m streets) ≡ 0 → record_refusal (due.Street m (i + 1)) (drop here file) ≡ 0
+  pub street-passes : first_nonzero i (street_record m streets) ≡ 0 → 0 ≡ record_refusal (due.Street m (i + 1)) (drop here file)
       → first_nonzero (i + 1) (street_record m streets) ≡ 0
-  street-passes quiet z = first_next i (street_record m streets) _ quiet (street-is _ refl) z
+  street-passes quiet z = first_next i (street_record m streets) 0 quiet (street-is 0 z) refl
 
   -- behind the last street stands the end
   pub end_is : (n r : ℕ) → n ≤ i → i ≤ n → first_nonzero i (street_record m streets) ≡ 0 → r ≡ record_refusal due.End (drop here file) → r ≡ streets_and_end n m streets

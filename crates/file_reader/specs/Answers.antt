@@ -1,10 +1,12 @@
--- What the reader's answers say, case by case: the record that is due, its mark and its fields, and the number of a refusal.
+-- What the reader's answers say, case by case: the record that is due, its mark and its fields.
 -- Assumes nothing.
-use Rattle.std.specs.Prelude.{ℕ, zero, suc, Bool, List}
+use Rattle.std.specs.Prelude.{ℕ, ◌≡◌, Bool, List, Result, IfOk}
 use Rattle.counting.specs.Words.{◌or_else◌}
 use Rattle.counting.specs.Lists.{at}
 use Rattle.survey_file.specs.Encode.{town_mark, scores_mark, weights_mark, street_mark, end_mark}
 use Rattle.survey_file.specs.Decode.{word_at, mark_refusal, town_fields, scores_fields, weights_fields, street_fields, end_fields, form_in}
+use Rattle.call_answers.specs.declared.Refusal.{Refusal}
+use Rattle.call_answers.specs.Answers.{number}
 use Rattle.file_reader.specs.declared.records.Due.{Due}
 use Rattle.file_reader.specs.declared.records.Due.TheVariants as due
 use Rattle.file_reader.specs.declared.records.Record.{Record}
@@ -42,25 +44,11 @@ fields_of (due.Weights n) rest = got.Weights
 fields_of (due.Street m number) rest = street_answer rest
 fields_of due.End rest = got.End
 
--- an answer where the number is 0, else the refusal of that number
-unfoldable pub record_unless : ℕ → Record → Record
-record_unless zero fields = fields
-record_unless (suc x) fields = got.Refused (suc x)
-
 -- the first refusal of a record that is due: its mark, then its fields
 abbrev pub record_refusal : Due → List ℕ → ℕ
 record_refusal due rest = mark_refusal (mark_of due rest) rest or_else fields_refusal due rest
 
--- the answer of reading the record that is due, out of all bytes from its mark on
-unfoldable pub record_of : Due → List ℕ → Record
-unfolding mark_of record_unless
-record_of due rest = record_unless (record_refusal due rest) (fields_of due rest)
-
--- the number of an answer, 0 where a record was read
-unfoldable pub number_of : Record → ℕ
-number_of (got.Town n m k kind new_form) = 0
-number_of got.Scores = 0
-number_of got.Weights = 0
-number_of (got.Street size) = 0
-number_of got.End = 0
-number_of (got.Refused x) = x
+-- an answer whose first refusal is x: that number, and the fields where it is 0
+pub record Reads (r : Result Record Refusal) (x : ℕ) (fields : Record) : Type 0 where
+  pub right-number : number r ≡ x
+  pub right-fields : IfOk r (λ got. got ≡ fields)

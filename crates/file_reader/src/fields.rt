@@ -1,10 +1,12 @@
-// What is turned down in the fields of a record. Each function is given all bytes from the record's mark on, and gives the number that its
-// definition gives, 0 where there is nothing to refuse.
+// What is turned down in the fields of a record. Each function is given all bytes from the record's mark on, and refuses by the number that its
+// definition gives, or accepts where that is 0.
 ghost use Rattle.std.specs.Prelude.{◌≡◌, ◌+◌, ◌*◌, ◌≤◌, ◌<◌, length};
 ghost use Rattle.counting.specs.Words.{first_nonzero};
+ghost use Rattle.call_answers.specs.Answers.{number};
 ghost use Rattle.survey_file.specs.Decode.{word_at, town_fields, scores_fields, weights_fields, street_fields, end_fields};
 ghost use Rattle.file_reader.specs.Fields.{sizes_field, score_field, site_field, list_field};
 
+use call_answers::Refusal;
 use survey::Survey;
 use survey_check::check;
 
@@ -13,167 +15,171 @@ pub fn word_at(rest: &[u8], i: usize) -> usize
     requires { i + 1 < length rest.now }
     ensures { (result ≡ word_at rest.now i) × (result < 65536) }
 {
-    let low = rest[i] as usize;
-    let high = rest[i + 1] as usize;
-    low + 256 * high
+    usize::from(rest[i]) + 256 * usize::from(rest[i + 1])
 }
 
 // 1, 2, 3, 4, and 12 before them: the fields of TN and of TW.
-pub fn town_refusal(rest: &[u8]) -> u8
-    ensures { result ≡ town_fields rest.now }
+#[tactic(auto, using(counting::proofs::Refusals::chain, crate::proofs::Tries::reads, call_answers::proofs::Refused::tries))]
+pub fn try_town(rest: &[u8]) -> Result<(), Refusal>
+    ensures { number result ≡ town_fields rest.now }
 {
     if rest.len() < 7 {
-        return 12;
+        return Err(Refusal::Short);
     }
     let n = word_at(rest, 2);
     if n < 1 {
-        return 1;
+        return Err(Refusal::Streets);
     }
     if Survey::STREETS < n {
-        return 1;
+        return Err(Refusal::Streets);
     }
-    sizes_refusal(rest[4], rest[5], rest[6])
+    try_sizes(rest[4], rest[5], rest[6])
 }
 
 // 2, 3, 4: the numbers of sites and of chosen sites, and the kind of plan.
-fn sizes_refusal(m: u8, k: u8, kind: u8) -> u8
-    ensures { result ≡ sizes_field m k kind }
+#[tactic(auto, using(counting::proofs::Refusals::chain, crate::proofs::Tries::reads, call_answers::proofs::Refused::tries))]
+fn try_sizes(m: u8, k: u8, kind: u8) -> Result<(), Refusal>
+    ensures { number result ≡ sizes_field m k kind }
 {
     if m < 1 {
-        return 2;
+        return Err(Refusal::Sites);
     }
-    if Survey::SITES < (m as usize) {
-        return 2;
+    if Survey::SITES < usize::from(m) {
+        return Err(Refusal::Sites);
     }
     if k < 1 {
-        return 3;
+        return Err(Refusal::Chosen);
     }
     if m < k {
-        return 3;
+        return Err(Refusal::Chosen);
     }
     if 1 < kind {
-        return 4;
+        return Err(Refusal::Kind);
     }
-    0
+    Ok(())
 }
 
 // 8: the score at i, held against the greatest score and the one before it.
-fn score_refusal(rest: &[u8], i: usize) -> u8
+#[tactic(auto, using(counting::proofs::Refusals::chain, crate::proofs::Tries::reads, call_answers::proofs::Refused::tries))]
+fn try_score(rest: &[u8], i: usize) -> Result<(), Refusal>
     requires { 2 * i + 3 < length rest.now }
-    ensures { result ≡ score_field rest.now i }
+    ensures { number result ≡ score_field rest.now i }
 {
     let score = word_at(rest, 2 + 2 * i);
-    if (Survey::TOP_SCORE as usize) < score {
-        return 8;
+    if usize::from(Survey::TOP_SCORE) < score {
+        return Err(Refusal::Score);
     }
     if i == 0 {
-        return 0;
+        return Ok(());
     }
     if word_at(rest, 2 + 2 * (i - 1)) < score {
-        return 8;
+        return Err(Refusal::Score);
     }
-    0
+    Ok(())
 }
 
 // The m scores, in their order.
-fn table_refusal(rest: &[u8], m: usize) -> u8
+#[tactic(auto, using(counting::proofs::Refusals::chain, crate::proofs::Tries::reads, call_answers::proofs::Refused::tries))]
+fn try_table(rest: &[u8], m: usize) -> Result<(), Refusal>
     requires { 2 + 2 * m ≤ length rest.now }
-    ensures { result ≡ first_nonzero m (score_field rest.now) }
+    ensures { number result ≡ first_nonzero m (score_field rest.now) }
 {
     for i in 0..m {
-        let r = score_refusal(rest, i);
-        if r != 0 {
-            return r;
-        }
+        try_score(rest, i)?;
     }
-    0
+    Ok(())
 }
 
 // 12, then 8: the fields of SC.
-pub fn scores_refusal(rest: &[u8], m: u8) -> u8
-    ensures { result ≡ scores_fields m rest.now }
+#[tactic(auto, using(counting::proofs::Refusals::chain, crate::proofs::Tries::reads, call_answers::proofs::Refused::tries))]
+pub fn try_scores(rest: &[u8], m: u8) -> Result<(), Refusal>
+    ensures { number result ≡ scores_fields m rest.now }
 {
-    let due = m as usize;
+    let due = usize::from(m);
     if rest.len() < 2 + 2 * due {
-        return 12;
+        return Err(Refusal::Short);
     }
-    table_refusal(rest, due)
+    try_table(rest, due)
 }
 
 // 12, then 24: the fields of HW.
-pub fn weights_refusal(rest: &[u8], n: usize) -> u8
-    ensures { result ≡ weights_fields n rest.now }
+#[tactic(auto, using(counting::proofs::Refusals::chain, crate::proofs::Tries::reads, call_answers::proofs::Refused::tries))]
+pub fn try_weights(rest: &[u8], n: usize) -> Result<(), Refusal>
+    ensures { number result ≡ weights_fields n rest.now }
 {
     if rest.len() < 2 {
-        return 12;
+        return Err(Refusal::Short);
     }
     if rest.len() - 2 < n {
-        return 12;
+        return Err(Refusal::Short);
     }
-    let end = 2 + n;
-    check::weights_refusal(&rest[2..end])
+    let x = check::weights_refusal(&rest[2..2 + n]);
+    if x != 0 {
+        return Err(Refusal::Weight);
+    }
+    Ok(())
 }
 
 // 10, 11: one byte of a list, where the same byte stands before it.
-fn site_refusal(m: u8, again: bool, b: u8) -> u8
-    ensures { result ≡ site_field m again b }
+#[tactic(auto, using(counting::proofs::Refusals::chain, crate::proofs::Tries::reads, call_answers::proofs::Refused::tries))]
+fn try_site(m: u8, again: bool, b: u8) -> Result<(), Refusal>
+    ensures { number result ≡ site_field m again b }
 {
     if b < 1 {
-        return 10;
+        return Err(Refusal::Number);
     }
     if m < b {
-        return 10;
+        return Err(Refusal::Number);
     }
     if again {
-        return 11;
+        return Err(Refusal::Twice);
     }
-    0
+    Ok(())
 }
 
 // A list, byte by byte. The table of bytes seen so far spares a scan of the list for each byte.
-fn list_refusal(m: u8, list: &[u8]) -> u8
-    ensures { result ≡ list_field m list.now }
+#[tactic(auto, using(counting::proofs::Refusals::chain, crate::proofs::Tries::reads, call_answers::proofs::Refused::tries))]
+fn try_list(m: u8, list: &[u8]) -> Result<(), Refusal>
+    ensures { number result ≡ list_field m list.now }
 {
     let mut seen = [false; 256];
-    for j in 0..list.len() {
-        let b = list[j];
-        let at = b as usize;
-        let r = site_refusal(m, seen[at], b);
-        if r != 0 {
-            return r;
-        }
+    for site in list {
+        let at = usize::from(*site);
+        try_site(m, seen[at], *site)?;
         seen[at] = true;
     }
-    0
+    Ok(())
 }
 
 // 12, 14, 15, 12, and then the list: the fields of ST.
-pub fn street_refusal(rest: &[u8], m: u8, number: usize) -> u8
-    ensures { result ≡ street_fields m number rest.now }
+#[tactic(auto, using(counting::proofs::Refusals::chain, crate::proofs::Tries::reads, call_answers::proofs::Refused::tries))]
+pub fn try_street(rest: &[u8], m: u8, turn: usize) -> Result<(), Refusal>
+    ensures { number result ≡ street_fields m turn rest.now }
 {
     if rest.len() < 5 {
-        return 12;
+        return Err(Refusal::Short);
     }
     let found = word_at(rest, 2);
-    if found != number {
-        return 14;
+    if found != turn {
+        return Err(Refusal::Turn);
     }
     if m < rest[4] {
-        return 15;
+        return Err(Refusal::Long);
     }
-    let end = 5 + (rest[4] as usize);
+    let end = 5 + usize::from(rest[4]);
     if rest.len() < end {
-        return 12;
+        return Err(Refusal::Short);
     }
-    list_refusal(m, &rest[5..end])
+    try_list(m, &rest[5..end])
 }
 
 // 16: the end, behind which nothing follows.
-pub fn end_refusal(rest: &[u8]) -> u8
-    ensures { result ≡ end_fields rest.now }
+#[tactic(auto, using(counting::proofs::Refusals::chain, crate::proofs::Tries::reads, call_answers::proofs::Refused::tries))]
+pub fn try_end(rest: &[u8]) -> Result<(), Refusal>
+    ensures { number result ≡ end_fields rest.now }
 {
     if 2 < rest.len() {
-        return 16;
+        return Err(Refusal::Behind);
     }
-    0
+    Ok(())
 }
