@@ -1,13 +1,15 @@
 -- Laws of chains of tries: a chain is left at a `?` with the refusal's number, and goes on where a try accepts.
 -- Assumes nothing.
-use mathlib.Core.Path.{◌≡◌, refl, sym}
+use mathlib.Core.Path.{◌≡◌, refl, sym, ◌∙◌}
 use Prim.Native.Nat.{ℕ, ◌≤◌, ◌<◌}
 use native.Mathlib.Omega.{arith}
+use Rattle.std.specs.Prelude.{Result, Ok, Err}
+use Rattle.std.specs.Result.{IsErrAnd}
 use Rattle.counting.specs.Words.{◌or_else◌, first_nonzero}
 use Rattle.counting.proofs.Refusals.{or-stop, or-pass, first-start, first_found, first_done, first-quiet}
 use Rattle.call_answers.specs.declared.Refusal.{Refusal}
 use Rattle.call_answers.specs.declared.Refusal.TheVariants as refusal
-use Rattle.call_answers.specs.Answers.{number_of}
+use Rattle.call_answers.specs.Answers.{number_of, number}
 
 -- no refusal has the number 0
 pub numbered : (e : Refusal) → number_of e ≡ 0 → ⊥
@@ -50,6 +52,15 @@ loop-refused i n f e l z q = sym (first_found i n f (number_of e) l z q (λ w. n
 
 pub loop_done : (i n : ℕ) (f : ℕ → ℕ) → n ≤ i → i ≤ n → first_nonzero i f ≡ 0 → first_nonzero n f ≡ 0
 loop_done i n f l k z = sym (first_done i n f l k z)
+
+-- the same of what a `?` in the loop hands out
+handed : {T : Type 0} (r : Result T Refusal) (e : Refusal) → IsErrAnd r (λ y. y ≡ e) → number r ≡ number_of e
+handed (Ok x) e h = absurd h
+handed (Err y) e h = rw h
+
+pub loop-error : {T : Type 0} (i n : ℕ) (f : ℕ → ℕ) (r : Result T Refusal) (e : Refusal) → first_nonzero i f ≡ 0 → IsErrAnd r (λ y. y ≡ e) → number_of e ≡ f i
+    → i < n → number r ≡ first_nonzero n f
+loop-error i n f r e z h q l = handed r e h ∙ sym (loop-refused i n f e l z q)
 
 -- what a chain of tries needs, each a `?`
 pub ruleset tries = (or-refused, or-accepted, loop-refused, first-start, first-quiet, loop_done)

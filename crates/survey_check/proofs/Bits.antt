@@ -22,7 +22,7 @@ use Rattle.counting.specs.Words.{◌unless◌, one, sum_of, outside}
 use Rattle.counting.specs.Lists.{at, has}
 use Rattle.counting.proofs.Refusals.{when-none, unless-yes, unless-none, or_left, or_right, or-neither, within}
 use Rattle.counting.proofs.Membership.{has-none, one-not}
-use Rattle.counting.proofs.Sums.{at-past, sum_of-same, sum_of-upto, sum_of-even, sum_of-next}
+use Rattle.counting.proofs.Sums.{at-past, sum_of-same, sum_of-upto, sum_of-even}
 use Rattle.survey_check.specs.Bits.{site_bit, SiteBits, bits_of, ranked_count}
 use Rattle.survey.specs.Accepted.{SoundRow}
 use Rattle.survey_check.proofs.Ones.{or_assoc, ones-or, ones-zero, ones-pow}
@@ -73,9 +73,11 @@ pub bits-start : (bits row : List ℕ) → 0 ≡ bits_of bits row 0
 unfolding bits_of
 bits-start bits row = refl
 
-pub bits-next : (bits row : List ℕ) (j all : ℕ) → all ≡ bits_of bits row j → bit_or all (at bits (at row j)) ≡ bits_of bits row (j + 1)
+pub bits-next : (bits row : List ℕ) (j all site : ℕ) → all ≡ bits_of bits row j → site ≡ at row j → bit_or all (at bits site) ≡ bits_of bits row (j + 1)
 unfolding bits_of
-bits-next bits row j all e = rw (add-one, e)
+bits-next bits row j all site e h = rw (add-one, e, h)
+
+pub ruleset joined = (bits-start, bits-next)
 
 -- each of these bytes has its bit among them
 bits-held : (bits row : List ℕ) (j i : ℕ) → i < j → bit_or (bits_of bits row j) (at bits (at row i)) ≡ bits_of bits row j
@@ -139,10 +141,6 @@ module _ (row : List ℕ) where
   pub ranked-size : (c : ℕ) → c ≡ ranked_count row (length row) → length (take c row) ≡ c
   ranked-size c e = length-take-le c row (omega (arith, ranked-most (length row)))
 
-  -- one byte more
-  pub ranked-next : (j count r : ℕ) → count ≡ ranked_count row j → r ≡ one (ltb 0 (at row j)) → count + r ≡ ranked_count row (j + 1)
-  ranked-next j count r e h = omega (arith, sum_of-next j (λ i. one (ltb 0 (at row i))))
-
   -- where the sites in front are all that the row has, what follows is 0
   ranked-rest : (c n : ℕ) → ((i : ℕ) → i < c → 0 < at row i) → ranked_count row n ≡ c → (j : ℕ) → c ≤ j → j < n → at row j ≡ 0
   ranked-rest c n front e j l h = ⊎_elim (λ z. z) (λ p. absurd (omega (arith, one-site j p, all, up c j l, up (suc j) n h))) (eq-zero-or-pos (at row j))
@@ -158,6 +156,8 @@ module _ (row : List ℕ) where
 
       all : sum_of c site ≡ c * 1
       all = sum_of-same c site (λ i. 1) (λ i k. one-site i (front i k)) ∙ sum_of-even c 1
+
+pub ruleset tallied = (ranked-most, ranked-most)
 
 -- ---- a row that has as many set bits in front as it has sites
 -- a number that none of the first j bytes is does not stand among them

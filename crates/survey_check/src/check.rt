@@ -1,196 +1,185 @@
-// What is turned down in a survey: each function gives the number that its definition gives, and 0 where there is nothing to refuse.
-ghost use Rattle.std.specs.Prelude.{◌≡◌, ◌+◌, ◌*◌, ◌≤◌, ◌<◌, length};
+// What is turned down in a survey: each function refuses by the number that its definition gives, and accepts where that is 0.
+ghost use Rattle.std.specs.Prelude.{◌≡◌, ◌+◌, ◌*◌, ◌≤◌, ◌<◌, length, ⊤, MatchResult};
 ghost use Rattle.counting.specs.Bounds.{most_sites};
+ghost use Rattle.counting.specs.Words.{outside};
+ghost use Rattle.call_answers.specs.Answers.{number};
 ghost use Rattle.survey_check.specs.Bits.{SiteBits};
-ghost use Rattle.survey.specs.Town.{town_of};
+ghost use Rattle.survey.specs.Town.{lent};
 ghost use Rattle.survey.specs.Refusals.{score_refusal, scores_refusal, weight_refusal, weights_refusal};
+ghost use Rattle.survey.specs.Refusals.{streets_refusal, sites_refusal, chosen_refusal, length_refusal};
 ghost use Rattle.survey.specs.Refusals.{site_refusal, row_refusal, street_refusal, rows_refusal, held_refusal, survey_refusal};
 
 use crate::quick;
-use survey::Survey;
+use call_answers::Refusal;
+use survey::accepted::AcceptedTown;
+use survey::{Survey, Town};
+
+// Whether a number is below the one bound or above the other.
+#[tactic(auto, using(call_answers::proofs::Refused::tries, counting::proofs::Refusals::chain))]
+pub fn outside(x: usize, low: usize, high: usize) -> bool
+    ensures { result ≡ outside x low high }
+{
+    x < low || high < x
+}
+
+// 1: the number of streets.
+#[tactic(auto, using(call_answers::proofs::Refused::tries, counting::proofs::Refusals::chain))]
+fn try_streets(n: usize) -> Result<(), Refusal>
+    ensures { number result ≡ streets_refusal n }
+{
+    Refusal::Streets.when(outside(n, 1, Survey::STREETS))
+}
+
+// 2: the number of sites.
+#[tactic(auto, using(call_answers::proofs::Refused::tries, counting::proofs::Refusals::chain))]
+pub fn try_sites(m: usize) -> Result<(), Refusal>
+    ensures { number result ≡ sites_refusal m }
+{
+    Refusal::Sites.when(outside(m, 1, Survey::SITES))
+}
+
+// 3: the number of chosen sites, or the length of a given list of sites.
+#[tactic(auto, using(call_answers::proofs::Refused::tries, counting::proofs::Refusals::chain))]
+fn try_chosen(k: usize, m: usize) -> Result<(), Refusal>
+    ensures { number result ≡ chosen_refusal k m }
+{
+    Refusal::Chosen.when(outside(k, 1, m))
+}
+
+// 6: a lent buffer of other than its exact length.
+#[tactic(auto, using(call_answers::proofs::Refused::tries, counting::proofs::Refusals::chain))]
+pub fn try_length(given: usize, due: usize) -> Result<(), Refusal>
+    ensures { number result ≡ length_refusal given due }
+{
+    Refusal::Length.when(given != due)
+}
 
 // 8: one score.
-fn score_refusal(scores: &[u16], i: usize) -> u8
+#[tactic(auto, using(call_answers::proofs::Refused::tries, counting::proofs::Refusals::chain))]
+fn try_score(scores: &[u16], i: usize) -> Result<(), Refusal>
     requires { i < length scores.now }
-    ensures { result ≡ score_refusal scores.now i }
+    ensures { number result ≡ score_refusal scores.now i }
 {
-    if Survey::TOP_SCORE < scores[i] {
-        return 8;
-    }
-    if i == 0 {
-        return 0;
-    }
-    if scores[i - 1] < scores[i] {
-        return 8;
-    }
-    0
+    Refusal::Score.when(Survey::TOP_SCORE < scores[i])?;
+    Refusal::Score.when(0 < i && scores[i - 1] < scores[i])
 }
 
 // The scores, in their order.
-pub fn scores_refusal(scores: &[u16]) -> u8
-    ensures { result ≡ scores_refusal scores.now }
+pub fn try_scores(scores: &[u16]) -> Result<(), Refusal>
+    ensures { number result ≡ scores_refusal scores.now }
 {
+    // kept: the new form is no plainer, since each score is tried with the one before it
     for i in 0..scores.len() {
-        let r = score_refusal(scores, i);
-        if r != 0 {
-            return r;
-        }
+        try_score(scores, i)?;
     }
-    0
+    Ok(())
 }
 
 // 24: one weight.
-pub fn weight_refusal(weight: u8) -> u8
-    ensures { result ≡ weight_refusal weight }
+#[tactic(auto, using(call_answers::proofs::Refused::tries, counting::proofs::Refusals::chain))]
+pub fn try_weight(weight: u8) -> Result<(), Refusal>
+    ensures { number result ≡ weight_refusal weight }
 {
-    if weight < 1 {
-        return 24;
-    }
-    if Survey::TOP_WEIGHT < weight {
-        return 24;
-    }
-    0
+    Refusal::Weight.when(outside(usize::from(weight), 1, usize::from(Survey::TOP_WEIGHT)))
 }
 
 // The weights, by street.
-pub fn weights_refusal(weights: &[u8]) -> u8
-    ensures { result ≡ weights_refusal weights.now }
+fn try_weights(weights: &[u8]) -> Result<(), Refusal>
+    ensures { number result ≡ weights_refusal weights.now }
 {
-    for i in 0..weights.len() {
-        let r = weight_refusal(weights[i]);
-        if r != 0 {
-            return r;
-        }
+    for weight in weights {
+        try_weight(*weight)?;
     }
-    0
+    Ok(())
 }
 
 // 9, 10, 11: one byte of a row, where a zero and where the same byte stands before it.
-fn site_refusal(m: usize, ended: bool, again: bool, b: u8) -> u8
-    ensures { result ≡ site_refusal m ended again b }
+#[tactic(auto, using(call_answers::proofs::Refused::tries, counting::proofs::Refusals::chain))]
+fn try_site(m: usize, ended: bool, again: bool, site: u8) -> Result<(), Refusal>
+    ensures { number result ≡ site_refusal m ended again site }
 {
-    if b == 0 {
-        return 0;
+    if site == 0 {
+        return Ok(());
     }
-    if ended {
-        return 9;
-    }
-    if m < (b as usize) {
-        return 10;
-    }
-    if again {
-        return 11;
-    }
-    0
+    Refusal::Gap.when(ended)?;
+    Refusal::Number.when(m < usize::from(site))?;
+    Refusal::Twice.when(again)
 }
 
 // A row, byte by byte. The table of bytes seen so far spares a scan of the row for each byte.
-pub fn row_refusal(m: usize, row: &[u8]) -> u8
-    ensures { result ≡ row_refusal m row.now }
+pub fn try_row(m: usize, row: &[u8]) -> Result<(), Refusal>
+    ensures { number result ≡ row_refusal m row.now }
 {
     let mut seen = [false; 256];
-    for j in 0..row.len() {
-        let b = row[j];
-        let at = b as usize;
-        let r = site_refusal(m, seen[0], seen[at], b);
-        if r != 0 {
-            return r;
-        }
+    for site in row {
+        let at = usize::from(*site);
+        try_site(m, seen[0], seen[at], *site)?;
         seen[at] = true;
     }
-    0
+    Ok(())
 }
 
 // The row of one street: byte by byte only where the bits do not show that it is sound.
-fn street_refusal(m: usize, bits: &[u64; 256], rows: &[u8], i: usize) -> u8
-    requires m_in_bounds { i * m + m ≤ length rows.now }
-    requires m_le_most_sites { m ≤ most_sites }
-    requires site_bits { SiteBits m bits.now }
-    ensures { result ≡ street_refusal m rows.now i }
+fn try_street(town: Town<'_>, bits: &[u64; 256], s: usize) -> Result<(), Refusal>
+    requires row_held { s * town.m + town.m ≤ length town.rows.now }
+    requires few_sites { town.m ≤ most_sites }
+    requires site_bits { SiteBits town.m bits.now }
+    ensures { number result ≡ street_refusal town.entry.m town.entry.rows.now s }
 {
-    let from = i * m;
-    let to = from + m;
-    let row = &rows[from..to];
+    let row = town.row(s);
     if quick::is_sound(row, bits) {
-        return 0;
+        return Ok(());
     }
-    row_refusal(m, row)
+    try_row(town.m, row)
 }
 
 // The rows, by street and byte.
-pub fn rows_refusal(n: usize, m: usize, rows: &[u8]) -> u8
-    requires m_in_bounds { n * m ≤ length rows.now }
-    requires m_le_most_sites { m ≤ most_sites }
-    ensures { result ≡ rows_refusal n m rows.now }
+fn try_rows(town: Town<'_>) -> Result<(), Refusal>
+    requires rows_held { town.n * town.m ≤ length town.rows.now }
+    requires few_sites { town.m ≤ most_sites }
+    ensures { number result ≡ rows_refusal town.entry.n town.entry.m town.entry.rows.now }
 {
-    let bits = quick::site_bits(m);
-    for i in 0..n {
-        let r = street_refusal(m, &bits, rows, i);
-        if r != 0 {
-            return r;
-        }
+    let bits = quick::site_bits(town.m);
+    for s in 0..town.n {
+        try_street(town, &bits, s)?;
     }
-    0
+    Ok(())
 }
 
 // What the survey holds: the scores, the weights, then the rows.
-fn held_refusal(n: usize, m: usize, scores: &[u16], weights: &[u8], rows: &[u8]) -> u8
-    requires m_in_bounds { n * m ≤ length rows.now }
-    requires m_le_most_sites { m ≤ most_sites }
-    ensures { result ≡ held_refusal (town_of n m scores.now weights.now rows.now) }
+fn try_held(town: Town<'_>) -> Result<(), Refusal>
+    requires rows_held { town.n * town.m ≤ length town.rows.now }
+    requires few_sites { town.m ≤ most_sites }
+    ensures { number result ≡ held_refusal (lent town.entry) }
 {
-    let r = scores_refusal(scores);
-    if r != 0 {
-        return r;
-    }
-    let r = weights_refusal(weights);
-    if r != 0 {
-        return r;
-    }
-    rows_refusal(n, m, rows)
+    try_scores(town.scores)?;
+    try_weights(town.weights)?;
+    try_rows(town)
 }
 
 // A survey with k sites to be chosen; `own` is what the call tries besides between 3 and 8.
-pub fn survey_refusal(
-    n: usize,
-    m: usize,
-    k: usize,
-    own: u8,
-    scores: &[u16],
-    weights: &[u8],
-    rows: &[u8],
-) -> u8
-    ensures { result ≡ survey_refusal (town_of n m scores.now weights.now rows.now) k own }
+fn try_all(town: Town<'_>, k: usize, own: Result<(), Refusal>) -> Result<(), Refusal>
+    ensures { number result ≡ survey_refusal (lent town.entry) k (number own) }
 {
-    if n < 1 {
-        return 1;
-    }
-    if Survey::STREETS < n {
-        return 1;
-    }
-    if m < 1 {
-        return 2;
-    }
-    if Survey::SITES < m {
-        return 2;
-    }
-    if k < 1 {
-        return 3;
-    }
-    if m < k {
-        return 3;
-    }
-    if own != 0 {
-        return own;
-    }
-    if scores.len() != m {
-        return 6;
-    }
-    if weights.len() != n {
-        return 6;
-    }
-    if rows.len() != n * m {
-        return 6;
-    }
-    held_refusal(n, m, scores, weights, rows)
+    try_streets(town.n)?;
+    try_sites(town.m)?;
+    try_chosen(k, town.m)?;
+    own?;
+    try_length(town.scores.len(), town.m)?;
+    try_length(town.weights.len(), town.n)?;
+    try_length(town.rows.len(), town.n * town.m)?;
+    try_held(town)
+}
+
+// The same, with the town as one that is accepted.
+pub fn try_survey<'a>(
+    town: Town<'a>,
+    k: usize,
+    own: Result<(), Refusal>,
+) -> Result<AcceptedTown<'a>, Refusal>
+    ensures refusal { number result ≡ survey_refusal (lent town.entry) k (number own) }
+    ensures same_town { MatchResult result (λ a. a.town ≡ town.entry) (λ e. ⊤) }
+{
+    try_all(town, k, own)?;
+    Ok(AcceptedTown { town })
 }

@@ -1,5 +1,5 @@
 // The check of a survey: the first number that applies to it, or 0.
-#![tactic(auto)]
+#![tactic(auto, using(call_answers::proofs::Refused::tries))]
 
 pub mod check;
 mod quick;

@@ -17,33 +17,27 @@ pub fn site_bits(m: usize) -> [u64; 256]
     bits
 }
 
-// 1 for a site, 0 for a byte that is 0.
-fn tally(b: u8) -> u8
-    ensures { result ≡ one (ltb 0 b) }
-{
-    if b == 0 { 0 } else { 1 }
-}
-
 // How many bytes of a row are not 0. The count is a byte so that many bytes are counted at once.
+#[tactic(auto, using(crate::proofs::Bits::tallied))]
 fn ranked_count(row: &[u8]) -> u8
     requires { length row.now < 256 }
     ensures { result ≡ ranked_count row.now (length row.now) }
 {
     let mut count = 0u8;
-    for j in 0..row.len() {
-        count = count + tally(row[j]);
+    for site in row {
+        count += u8::from(*site != 0);
     }
     count
 }
 
 // The bits of the sites of a list, together.
+#[tactic(auto, using(crate::proofs::Bits::joined))]
 fn bits_of(list: &[u8], bits: &[u64; 256]) -> u64
     ensures { result ≡ bits_of bits.now list.now (length list.now) }
 {
     let mut all = 0u64;
-    for j in 0..list.len() {
-        let site = list[j] as usize;
-        all = all | bits[site];
+    for site in list {
+        all |= bits[usize::from(*site)];
     }
     all
 }
@@ -53,7 +47,7 @@ pub fn is_sound(row: &[u8], bits: &[u64; 256]) -> bool
     requires { length row.now < 256 }
     ensures { (m : ℕ) → SiteBits m bits.now → result ≡ true → row_refusal m row.now ≡ 0 }
 {
-    let count = ranked_count(row) as usize;
-    let all = bits_of(&row[..count], bits);
-    (u64::count_ones(all) as usize) == count
+    let count = ranked_count(row);
+    let all = bits_of(&row[..usize::from(count)], bits);
+    all.count_ones() == u32::from(count)
 }
