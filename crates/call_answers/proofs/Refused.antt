@@ -54,7 +54,7 @@ pub loop_done : (i n : ℕ) (f : ℕ → ℕ) → n ≤ i → i ≤ n → first_
 loop_done i n f l k z = sym (first_done i n f l k z)
 
 -- the same of what a `?` in the loop hands out
-handed : {T : Type 0} (r : Result T Refusal) (e : Refusal) → IsErrAnd r (λ y. y ≡ e) → number r ≡ number_of e
+pub handed : {T : Type 0} (r : Result T Refusal) (e : Refusal) → IsErrAnd r (λ y. y ≡ e) → number r ≡ number_of e
 handed (Ok x) e h = absurd h
 handed (Err y) e h = rw h
 

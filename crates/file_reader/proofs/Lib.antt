@@ -1,4 +1,4 @@
-pub mod Tries
-pub mod Reading
-pub mod Walking
-pub mod Whole
+mod Reading
+mod Tries
+mod Walking
+mod Whole

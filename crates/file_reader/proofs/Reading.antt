@@ -2,19 +2,22 @@
 -- Assumes nothing.
 use mathlib.Core.Path.{◌≡◌, refl, sym, ap, subst, ◌∙◌}
 use mathlib.Core.Bool.{Bool, true, false, cond}
-use mathlib.Core.List.{List, [], ◌∷◌}
+use mathlib.Core.List.{List}
 use Prim.Native.Nat.{ℕ, zero, suc, ◌+◌, ◌*◌, ◌≤◌, ◌<◌}
 use native.Mathlib.Omega.{arith}
 use lib.Dec.{ltb, eqb, lit<}
 use lib.ListN.{length}
 use borrow.Author.Tests.{lt-ltb, le-ltb, eq-eqb, ne_eqb, ltb-false}
-use Rattle.std.specs.Prelude.{Result, IfOk}
+use Rattle.std.specs.Prelude.{Result, Err}
 use Rattle.counting.specs.Words.{◌when◌, ◌unless◌}
 use Rattle.counting.specs.Lists.{at}
 use Rattle.counting.proofs.Refusals.{or-stop, or-pass, or-zero, refuse, skip, unless-yes, unless-none, when-zero}
 use Rattle.call_answers.specs.declared.Refusal.{Refusal}
+use Rattle.call_answers.specs.Answers.{number_of}
 use Rattle.survey_file.specs.Encode.{town_mark, scores_mark, weights_mark, street_mark, end_mark}
 use Rattle.survey_file.specs.Decode.{word_at, short_refusal, mark_refusal, town_fields, scores_fields, weights_fields, street_fields, form_in}
+use Rattle.survey_file.specs.declared.Sizes.{Sizes}
+use Rattle.survey_file.specs.Sizes.{sizes_in}
 use Rattle.file_reader.specs.declared.records.Due.{Due}
 use Rattle.file_reader.specs.declared.records.Due.TheVariants as due
 use Rattle.file_reader.specs.declared.records.Record.{Record}
@@ -51,6 +54,10 @@ street-long m number rest z =
 form-told : (new_form : Bool) → eqb (town_mark new_form) (town_mark true) ≡ new_form
 form-told false = refl
 form-told true = refl
+
+-- a refusal with the number that is due
+pub refused : {e : Refusal} {x : ℕ} {fields : Record} → number_of e ≡ x → Reads (Err e) x fields
+refused q = record { right-number = q; right-fields = tt }
 
 -- no mark is there
 pub no-mark : (d : Due) (rest : List ℕ) → length rest < 2 → 12 ≡ record_refusal d rest
@@ -135,30 +142,29 @@ unknown-mark (due.Street m number) rest mark old new s w l n e = l e
 unknown-mark due.End rest mark old new s w l n e = n e
 
 -- ---- what a record that was read tells
--- the numbers in it
-abbrev parts : Record → List ℕ
-parts (got.Town n m k kind new_form) = n ∷ m ∷ k ∷ kind ∷ []
-parts got.Scores = []
-parts got.Weights = []
-parts (got.Street size) = size ∷ []
-parts got.End = []
+-- the sizes in it, and in others those of no town
+abbrev none : Sizes
+none = record { n = 0; m = 0; k = 0; kind = 0; new_form = false }
 
--- the form in it
-abbrev form-part : Record → Bool
-form-part (got.Town n m k kind new_form) = new_form
-form-part got.Scores = false
-form-part got.Weights = false
-form-part (got.Street size) = false
-form-part got.End = false
+abbrev sizes-part : Record → Sizes
+sizes-part (got.Town sizes) = sizes
+sizes-part got.Scores = none
+sizes-part got.Weights = none
+sizes-part (got.Street size) = none
+sizes-part got.End = none
 
--- the fields of a town
-pub town-parts : (rest : List ℕ) (n m k kind : ℕ) (new_form : Bool) → got.Town n m k kind new_form ≡ town_answer (form_in rest) rest
-    → (n ≡ word_at rest 2) × (m ≡ at rest 4) × (k ≡ at rest 5) × (kind ≡ at rest 6) × (new_form ≡ form_in rest)
-town-parts rest n m k kind new_form e =
-    let part : (i : ℕ) → at (parts (got.Town n m k kind new_form)) i ≡ at (parts (town_answer (form_in rest) rest)) i
-    = λ i. ap (λ (a : Record). at (parts a) i) e in
-    (part 0, part 1, part 2, part 3, ap form-part e)
+-- the length of a list in it
+abbrev size-part : Record → ℕ
+size-part (got.Town sizes) = 0
+size-part got.Scores = 0
+size-part got.Weights = 0
+size-part (got.Street size) = size
+size-part got.End = 0
+
+-- the sizes of a town
+pub town-part : (rest : List ℕ) (sizes : Sizes) → got.Town sizes ≡ town_answer (form_in rest) rest → sizes ≡ sizes_in rest
+town-part rest sizes e = ap sizes-part e
 
 -- the length of the list of a street
 pub street-part : (rest : List ℕ) (size : ℕ) → got.Street size ≡ street_answer rest → size ≡ at rest 4
-street-part rest size e = ap (λ (a : Record). at (parts a) 0) e
+street-part rest size e = ap size-part e

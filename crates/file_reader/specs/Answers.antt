@@ -4,7 +4,7 @@ use Rattle.std.specs.Prelude.{ℕ, ◌≡◌, Bool, List, Result, IfOk}
 use Rattle.counting.specs.Words.{◌or_else◌}
 use Rattle.counting.specs.Lists.{at}
 use Rattle.survey_file.specs.Encode.{town_mark, scores_mark, weights_mark, street_mark, end_mark}
-use Rattle.survey_file.specs.Decode.{word_at, mark_refusal, town_fields, scores_fields, weights_fields, street_fields, end_fields, form_in}
+use Rattle.survey_file.specs.Decode.{mark_refusal, streets_in, sites_in, chosen_in, kind_in, town_fields, scores_fields, weights_fields, street_fields, end_fields, form_in}
 use Rattle.call_answers.specs.declared.Refusal.{Refusal}
 use Rattle.call_answers.specs.Answers.{number}
 use Rattle.file_reader.specs.declared.records.Due.{Due}
@@ -30,7 +30,8 @@ fields_refusal due.End rest = end_fields rest
 
 -- the fields of TN or TW, with the form that this says
 abbrev pub town_answer : Bool → List ℕ → Record
-town_answer new_form rest = got.Town (word_at rest 2) (at rest 4) (at rest 5) (at rest 6) new_form
+town_answer new_form rest =
+    got.Town (record { n = streets_in rest; m = sites_in rest; k = chosen_in rest; kind = kind_in rest; new_form = new_form })
 
 -- the length of the list in ST
 abbrev pub street_answer : List ℕ → Record

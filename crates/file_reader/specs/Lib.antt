@@ -1,3 +1,3 @@
 pub mod Fields
 pub mod Answers
-pub mod Checks
+pub mod Left

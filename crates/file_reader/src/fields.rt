@@ -9,6 +9,7 @@ ghost use Rattle.file_reader.specs.Fields.{sizes_field, score_field, site_field,
 use call_answers::Refusal;
 use survey::Survey;
 use survey_check::check;
+use survey_check::check::outside;
 
 // The 16-bit number at an index, low byte first.
 pub fn word_at(rest: &[u8], i: usize) -> usize
@@ -26,13 +27,7 @@ pub fn try_town(rest: &[u8]) -> Result<(), Refusal>
     if rest.len() < 7 {
         return Err(Refusal::Short);
     }
-    let n = word_at(rest, 2);
-    if n < 1 {
-        return Err(Refusal::Streets);
-    }
-    if Survey::STREETS < n {
-        return Err(Refusal::Streets);
-    }
+    check::try_streets(word_at(rest, 2))?;
     try_sizes(rest[4], rest[5], rest[6])
 }
 
@@ -41,22 +36,9 @@ pub fn try_town(rest: &[u8]) -> Result<(), Refusal>
 fn try_sizes(m: u8, k: u8, kind: u8) -> Result<(), Refusal>
     ensures { number result ≡ sizes_field m k kind }
 {
-    if m < 1 {
-        return Err(Refusal::Sites);
-    }
-    if Survey::SITES < usize::from(m) {
-        return Err(Refusal::Sites);
-    }
-    if k < 1 {
-        return Err(Refusal::Chosen);
-    }
-    if m < k {
-        return Err(Refusal::Chosen);
-    }
-    if 1 < kind {
-        return Err(Refusal::Kind);
-    }
-    Ok(())
+    check::try_sites(usize::from(m))?;
+    check::try_chosen(usize::from(k), usize::from(m))?;
+    Refusal::Kind.when(1 < kind)
 }
 
 // 8: the score at i, held against the greatest score and the one before it.
@@ -92,14 +74,16 @@ fn try_table(rest: &[u8], m: usize) -> Result<(), Refusal>
 
 // 12, then 8: the fields of SC.
 #[tactic(auto, using(counting::proofs::Refusals::chain, crate::proofs::Tries::reads, call_answers::proofs::Refused::tries))]
-pub fn try_scores(rest: &[u8], m: u8) -> Result<(), Refusal>
+pub fn try_scores(rest: &[u8], m: usize) -> Result<(), Refusal>
     ensures { number result ≡ scores_fields m rest.now }
 {
-    let due = usize::from(m);
-    if rest.len() < 2 + 2 * due {
+    if rest.len() < 2 {
         return Err(Refusal::Short);
     }
-    try_table(rest, due)
+    if (rest.len() - 2) / 2 < m {
+        return Err(Refusal::Short);
+    }
+    try_table(rest, m)
 }
 
 // 12, then 24: the fields of HW.
@@ -113,33 +97,21 @@ pub fn try_weights(rest: &[u8], n: usize) -> Result<(), Refusal>
     if rest.len() - 2 < n {
         return Err(Refusal::Short);
     }
-    let x = check::weights_refusal(&rest[2..2 + n]);
-    if x != 0 {
-        return Err(Refusal::Weight);
-    }
-    Ok(())
+    check::try_weights(&rest[2..2 + n])
 }
 
 // 10, 11: one byte of a list, where the same byte stands before it.
 #[tactic(auto, using(counting::proofs::Refusals::chain, crate::proofs::Tries::reads, call_answers::proofs::Refused::tries))]
-fn try_site(m: u8, again: bool, b: u8) -> Result<(), Refusal>
-    ensures { number result ≡ site_field m again b }
+fn try_site(m: usize, again: bool, site: u8) -> Result<(), Refusal>
+    ensures { number result ≡ site_field m again site }
 {
-    if b < 1 {
-        return Err(Refusal::Number);
-    }
-    if m < b {
-        return Err(Refusal::Number);
-    }
-    if again {
-        return Err(Refusal::Twice);
-    }
-    Ok(())
+    Refusal::Number.when(outside(usize::from(site), 1, m))?;
+    Refusal::Twice.when(again)
 }
 
 // A list, byte by byte. The table of bytes seen so far spares a scan of the list for each byte.
 #[tactic(auto, using(counting::proofs::Refusals::chain, crate::proofs::Tries::reads, call_answers::proofs::Refused::tries))]
-fn try_list(m: u8, list: &[u8]) -> Result<(), Refusal>
+fn try_list(m: usize, list: &[u8]) -> Result<(), Refusal>
     ensures { number result ≡ list_field m list.now }
 {
     let mut seen = [false; 256];
@@ -153,7 +125,7 @@ fn try_list(m: u8, list: &[u8]) -> Result<(), Refusal>
 
 // 12, 14, 15, 12, and then the list: the fields of ST.
 #[tactic(auto, using(counting::proofs::Refusals::chain, crate::proofs::Tries::reads, call_answers::proofs::Refused::tries))]
-pub fn try_street(rest: &[u8], m: u8, turn: usize) -> Result<(), Refusal>
+pub fn try_street(rest: &[u8], m: usize, turn: usize) -> Result<(), Refusal>
     ensures { number result ≡ street_fields m turn rest.now }
 {
     if rest.len() < 5 {
@@ -163,14 +135,14 @@ pub fn try_street(rest: &[u8], m: u8, turn: usize) -> Result<(), Refusal>
     if found != turn {
         return Err(Refusal::Turn);
     }
-    if m < rest[4] {
+    let size = usize::from(rest[4]);
+    if m < size {
         return Err(Refusal::Long);
     }
-    let end = 5 + usize::from(rest[4]);
-    if rest.len() < end {
+    if rest.len() < 5 + size {
         return Err(Refusal::Short);
     }
-    try_list(m, &rest[5..end])
+    try_list(m, &rest[5..5 + size])
 }
 
 // 16: the end, behind which nothing follows.
@@ -178,8 +150,5 @@ pub fn try_street(rest: &[u8], m: u8, turn: usize) -> Result<(), Refusal>
 pub fn try_end(rest: &[u8]) -> Result<(), Refusal>
     ensures { number result ≡ end_fields rest.now }
 {
-    if 2 < rest.len() {
-        return Err(Refusal::Behind);
-    }
-    Ok(())
+    Refusal::Behind.when(2 < rest.len())
 }

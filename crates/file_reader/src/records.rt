@@ -1,37 +1,29 @@
 // One record of a survey file: its mark decides which one is read, and its fields come back in the answer, or the refusal.
 ghost use Rattle.std.specs.Prelude.{◌≤◌, length, drop};
 ghost use Rattle.survey_file.specs.Decode.{town_fields, scores_fields, weights_fields, street_fields, end_fields};
-ghost use Rattle.file_reader.specs.declared.records.Record as got;
 ghost use Rattle.file_reader.specs.Answers.{Reads, town_answer, street_answer, record_refusal, fields_of};
 
 use crate::fields;
 use call_answers::Refusal;
+use survey_file::Sizes;
 
 // The record that is due, with what its fields are held against: the numbers of sites and of streets, and the number of the street.
 #[derive(Clone, Copy)]
 pub enum Due {
     Town,
-    Scores { m: u8 },
+    Scores { m: usize },
     Weights { n: usize },
-    Street { m: u8, number: usize },
+    Street { m: usize, number: usize },
     End,
 }
 
 // What reading a record gives: the sizes, the kind and the form of a town, the scores, the weights, the length of a street's list, or the end.
 #[derive(Clone, Copy)]
 pub enum Record {
-    Town {
-        n: usize,
-        m: u8,
-        k: u8,
-        kind: u8,
-        new_form: bool,
-    },
+    Town(Sizes),
     Scores,
     Weights,
-    Street {
-        size: usize,
-    },
+    Street { size: usize },
     End,
 }
 
@@ -40,17 +32,17 @@ fn town_in(rest: &[u8], new_form: bool) -> Result<Record, Refusal>
     ensures { Reads result (town_fields rest.now) (town_answer new_form rest.now) }
 {
     fields::try_town(rest)?;
-    Ok(Record::Town {
+    Ok(Record::Town(Sizes {
         n: fields::word_at(rest, 2),
-        m: rest[4],
-        k: rest[5],
-        kind: rest[6],
+        m: usize::from(rest[4]),
+        k: usize::from(rest[5]),
+        kind: usize::from(rest[6]),
         new_form,
-    })
+    }))
 }
 
 // The record SC, past its mark.
-fn scores_in(rest: &[u8], m: u8) -> Result<Record, Refusal>
+fn scores_in(rest: &[u8], m: usize) -> Result<Record, Refusal>
     ensures { Reads result (scores_fields m rest.now) Record.Scores }
 {
     fields::try_scores(rest, m)?;
@@ -66,7 +58,7 @@ fn weights_in(rest: &[u8], n: usize) -> Result<Record, Refusal>
 }
 
 // The record ST, past its mark.
-fn street_in(rest: &[u8], m: u8, number: usize) -> Result<Record, Refusal>
+fn street_in(rest: &[u8], m: usize, number: usize) -> Result<Record, Refusal>
     ensures { Reads result (street_fields m number rest.now) (street_answer rest.now) }
 {
     fields::try_street(rest, m, number)?;

@@ -24,7 +24,7 @@ pub fn outside(x: usize, low: usize, high: usize) -> bool
 
 // 1: the number of streets.
 #[tactic(auto, using(call_answers::proofs::Refused::tries, counting::proofs::Refusals::chain))]
-fn try_streets(n: usize) -> Result<(), Refusal>
+pub fn try_streets(n: usize) -> Result<(), Refusal>
     ensures { number result ≡ streets_refusal n }
 {
     Refusal::Streets.when(outside(n, 1, Survey::STREETS))
@@ -40,7 +40,7 @@ pub fn try_sites(m: usize) -> Result<(), Refusal>
 
 // 3: the number of chosen sites, or the length of a given list of sites.
 #[tactic(auto, using(call_answers::proofs::Refused::tries, counting::proofs::Refusals::chain))]
-fn try_chosen(k: usize, m: usize) -> Result<(), Refusal>
+pub fn try_chosen(k: usize, m: usize) -> Result<(), Refusal>
     ensures { number result ≡ chosen_refusal k m }
 {
     Refusal::Chosen.when(outside(k, 1, m))
@@ -84,7 +84,7 @@ pub fn try_weight(weight: u8) -> Result<(), Refusal>
 }
 
 // The weights, by street.
-fn try_weights(weights: &[u8]) -> Result<(), Refusal>
+pub fn try_weights(weights: &[u8]) -> Result<(), Refusal>
     ensures { number result ≡ weights_refusal weights.now }
 {
     for weight in weights {

@@ -1,4 +1,7 @@
 use mathlib.Core.Path.{◌∙◌}
+use Prim.Native.Nat.{◌+◌, ◌*◌, ◌≤◌}
+use native.Mathlib.Omega.{arith}
+use lib.ListN.{length}
 use borrow.Author.Tests.{le-ltb}
 use Rattle.counting.proofs.Refusals.{skip}
 use Rattle.file_reader.proofs.Tries.{scores-read}
@@ -7,4 +10,5 @@ use Rattle.file_reader.proofs.fields.try_scores.Goals as goal
 pub returns : goal.returns
 returns c =
     let a = c.args in
-    skip _ 12 _ _ (le-ltb _ _ c.if-rest-due.false) (c.try_table.ensures ∙ scores-read a.m a.rest.now)
+    let there : 2 + 2 * a.m ≤ length a.rest.now = omega arith in
+    skip _ 12 _ _ (le-ltb _ _ there) (c.try_table.ensures ∙ scores-read a.m a.rest.now)

@@ -3,7 +3,7 @@ use Prim.Native.Nat.{◌≤◌}
 use lib.ListN.{length, drop}
 use Rattle.counting.specs.Words.{first_nonzero}
 use Rattle.survey_file.specs.Decode.{past, street_record}
-use Rattle.file_reader.proofs.reader.try_streets.Given as goal
+use Rattle.file_reader.proofs.streets.try_streets.Given as goal
 
 abbrev pub invariant-loop-i : goal.invariant-loop-i
 invariant-loop-i l =
