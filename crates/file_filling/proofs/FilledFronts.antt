@@ -133,7 +133,7 @@ module _ (file : List ℕ) (ok : file_refusal file ≡ 0) where
         omega (arith, length-drop from file)
 
     -- the next one begins behind it
-    record-next : drop (from + 5 + at file (from + 4)) file ≡ past (streets_part file) (s + 1)
+    record-next : drop (from + (5 + at file (from + 4))) file ≡ past (streets_part file) (s + 1)
     record-next = street-past file (streets_part file) (sites_in file) from s there (at file (from + 4)) (sym (get_or-drop from file 4 0))
 
     -- its row stands in the rows
@@ -167,6 +167,9 @@ module _ {file : List ℕ} {n m : ℕ} {new_form : Bool} (known : FileTaken file
   filling-begin before size e = rw (e, known.sites, known.form, known.streets) (filling-none before)
 
   -- the weights of a new file stand in it
+  pub few : (n ≤ most_streets) × (m ≤ most_sites)
+  few = let z = sizes file known.ok in (omega (arith, known.streets, z.0), omega (arith, known.sites, z.1))
+
   pub weights-room : new_form ≡ true → 11 + 2 * m + n ≤ length file
   weights-room new =
       let size : weights_size new_form n ≡ 2 + n = ap (λ (b : Bool). weights_size b n) new in
@@ -190,7 +193,7 @@ module _ {file : List ℕ} {n m : ℕ} {new_form : Bool} (known : FileTaken file
     -- one street more
     filling-more : (ys : List ℕ) → length now ≡ most_rows → length ys ≡ sites_in file
         → ((j : ℕ) → j < sites_in file → at ys j ≡ at (list_in (drop from file)) j)
-        → Filling file before (put (s * sites_in file) (s * sites_in file + sites_in file) now ys) (s + 1) (from + 5 + at file (from + 4))
+        → Filling file before (put (s * sites_in file) (s * sites_in file + sites_in file) now ys) (s + 1) (from + (5 + at file (from + 4)))
     filling-more ys fits size right =
         let k : ℕ = sites_in file in
         let room : s * k + k ≤ streets_in file * k = row_within (streets_in file) k s street in
@@ -198,12 +201,12 @@ module _ {file : List ℕ} {n m : ℕ} {new_form : Bool} (known : FileTaken file
         (omega arith) (λ j u. right j (omega arith) ∙ row-right file known.ok s from street h.there j (omega arith)) h.filled in
         record {
           there = record-next file known.ok s from street h.there;
-          inside = record-fits;
+          inside = omega (arith, record-fits);
           filled = mapped_end (λ i x. at (rows_in file) i) before _ (s * k + k) ((s + 1) * k) (omega arith) (omega arith) more;
         }
 
     pub filling-next : (ys : List ℕ) → length now ≡ most_rows → length ys ≡ m → ((j : ℕ) → j < m → at ys j ≡ at (list_in (drop from file)) j)
-        → Filling file before (put (s * m) (s * m + m) now ys) (s + 1) (from + 5 + at file (from + 4))
+        → Filling file before (put (s * m) (s * m + m) now ys) (s + 1) (from + (5 + at file (from + 4)))
     filling-next ys fits size right =
         rw known.sites (filling-more ys fits (omega (arith, known.sites)) (λ j u. right j (omega (arith, known.sites))))
 

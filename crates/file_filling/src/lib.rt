@@ -5,11 +5,12 @@ ghost use Rattle.std.specs.Prelude.{true, cond, ◌≡◌, ◌+◌, ◌*◌, ◌
 ghost use Rattle.counting.specs.Bounds.{most_streets, most_sites, most_rows};
 ghost use Rattle.counting.specs.Lists.{at};
 ghost use Rattle.counting.specs.Buffers.{Mapped};
-ghost use Rattle.survey_file.specs.Decode.{word_at, list_in, rows_in, FileTaken};
+ghost use Rattle.survey_file.specs.Decode.{word_at, list_in, rows_in};
 ghost use Rattle.survey_file.specs.FileBuffers.{rows_read, scores_read, weights_read};
 
 use file_reader::fields;
-use survey_file::weights_size;
+use survey_file::taken::TakenFile;
+use survey_file::{Sizes, weights_size};
 
 // The scores, one after another.
 fn fill_scores(file: &[u8], m: usize, scores: &mut [u16])
@@ -26,10 +27,7 @@ fn weight(file: &[u8], from: usize, i: usize, new_form: bool) -> u8
     requires { new_form ≡ true → from + i < length file.now }
     ensures { result ≡ cond new_form (at file.now (from + i)) 1 }
 {
-    if !new_form {
-        return 1;
-    }
-    file[from + i]
+    if new_form { file[from + i] } else { 1 }
 }
 
 // The weights, by street.
@@ -60,43 +58,34 @@ fn fill_row(file: &[u8], from: usize, row: &mut [u8])
 {
     let size = file[from + 4] as usize;
     let start = from + 5;
-    for j in 0..row.len() {
-        row[j] = entry(file, start, size, j);
+    for (j, site) in row.iter_mut().enumerate() {
+        *site = entry(file, start, size, j);
     }
 }
 
 // The rows, street by street: each record tells where the next one begins.
-fn fill_rows(file: &[u8], n: usize, m: usize, new_form: bool, rows: &mut [u8])
-    requires file_taken { FileTaken file.now n m new_form }
-    requires rows_len { length rows.old ≡ most_rows }
-    ensures { Mapped (λ i x. at (rows_in file.now) i) rows.old rows.new (n * m) }
+fn fill_rows<'a>(taken: TakenFile<'a>, rows: &mut [u8])
+    requires { length rows.old ≡ most_rows }
+    ensures { Mapped (λ i x. at (rows_in taken.entry.file.now) i) rows.old rows.new (taken.entry.sizes.n * taken.entry.sizes.m) }
 {
+    let Sizes { n, m, new_form, .. } = taken.sizes;
     let mut from = 9 + 2 * m + weights_size(n, new_form);
     for s in 0..n {
         let low = s * m;
-        let high = low + m;
-        fill_row(file, from, &mut rows[low..high]);
-        from = from + 5 + (file[from + 4] as usize);
+        fill_row(taken.file, from, &mut rows[low..low + m]);
+        from += 5 + taken.file[from + 4] as usize;
     }
 }
 
 // The three buffers: the first m scores, the first n weights and the first n times m bytes of the rows.
-pub fn fill(
-    file: &[u8],
-    n: usize,
-    m: usize,
-    new_form: bool,
-    scores: &mut [u16],
-    weights: &mut [u8],
-    rows: &mut [u8],
-)
-    requires file_taken { FileTaken file.now n m new_form }
-    requires rows_len { (length rows.old ≡ most_rows) × (length scores.old ≡ most_sites) × (length weights.old ≡ most_streets) }
-    ensures rows { rows.new ≡ rows_read file.now rows.old }
-    ensures scores { scores.new ≡ scores_read file.now scores.old }
-    ensures weights { weights.new ≡ weights_read file.now weights.old }
+pub fn fill<'a>(taken: TakenFile<'a>, scores: &mut [u16], weights: &mut [u8], rows: &mut [u8])
+    requires { (length rows.old ≡ most_rows) × (length scores.old ≡ most_sites) × (length weights.old ≡ most_streets) }
+    ensures rows { rows.new ≡ rows_read taken.entry.file.now rows.old }
+    ensures scores { scores.new ≡ scores_read taken.entry.file.now scores.old }
+    ensures weights { weights.new ≡ weights_read taken.entry.file.now weights.old }
 {
-    fill_scores(file, m, scores);
-    fill_weights(file, 11 + 2 * m, n, new_form, weights);
-    fill_rows(file, n, m, new_form, rows);
+    let Sizes { n, m, new_form, .. } = taken.sizes;
+    fill_scores(taken.file, m, scores);
+    fill_weights(taken.file, 11 + 2 * m, n, new_form, weights);
+    fill_rows(taken, rows);
 }

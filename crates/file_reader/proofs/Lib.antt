@@ -1,4 +1,4 @@
-mod Reading
-mod Tries
-mod Walking
-mod Whole
+pub mod Reading
+pub mod Tries
+pub mod Walking
+pub mod Whole
