@@ -1,3 +1,4 @@
+use native.Mathlib.Omega.{arith}
 use mathlib.Core.Path.{ap, ◌∙◌}
 use Rattle.call_answers.proofs.Refused.{handed}
 use Rattle.file_reader.specs.declared.records.Due.TheVariants as due
@@ -41,4 +42,7 @@ invariant_of-result c =
     let scores = c.in_ok-behind_scores.ensures in
     let weights = c.in_ok-behind_weights.ensures in
     let behind = at-weights file (at-scores file c.new.ensures.1 town.number town.sizes town.past.1) scores.number scores.past.1 in
-    record { taken = all-taken file (at-streets file behind weights.number weights.past.1) c.in_ok-try_streets.ensures }
+    record {
+      taken = all-taken file (at-streets file behind weights.number weights.past.1) c.in_ok-try_streets.ensures;
+      bytes = λ j. omega (arith, c.type_inv.file j);
+    }
