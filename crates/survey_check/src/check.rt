@@ -15,7 +15,6 @@ use survey::accepted::AcceptedTown;
 use survey::{Survey, Town};
 
 // Whether a number is below the one bound or above the other.
-#[tactic(auto, using(call_answers::proofs::Refused::tries, counting::proofs::Refusals::chain))]
 pub fn outside(x: usize, low: usize, high: usize) -> bool
     ensures { result ≡ outside x low high }
 {
@@ -23,7 +22,6 @@ pub fn outside(x: usize, low: usize, high: usize) -> bool
 }
 
 // 1: the number of streets.
-#[tactic(auto, using(call_answers::proofs::Refused::tries, counting::proofs::Refusals::chain))]
 fn try_streets(n: usize) -> Result<(), Refusal>
     ensures { number result ≡ streets_refusal n }
 {
@@ -31,7 +29,6 @@ fn try_streets(n: usize) -> Result<(), Refusal>
 }
 
 // 2: the number of sites.
-#[tactic(auto, using(call_answers::proofs::Refused::tries, counting::proofs::Refusals::chain))]
 pub fn try_sites(m: usize) -> Result<(), Refusal>
     ensures { number result ≡ sites_refusal m }
 {
@@ -39,7 +36,6 @@ pub fn try_sites(m: usize) -> Result<(), Refusal>
 }
 
 // 3: the number of chosen sites, or the length of a given list of sites.
-#[tactic(auto, using(call_answers::proofs::Refused::tries, counting::proofs::Refusals::chain))]
 fn try_chosen(k: usize, m: usize) -> Result<(), Refusal>
     ensures { number result ≡ chosen_refusal k m }
 {
@@ -47,7 +43,6 @@ fn try_chosen(k: usize, m: usize) -> Result<(), Refusal>
 }
 
 // 6: a lent buffer of other than its exact length.
-#[tactic(auto, using(call_answers::proofs::Refused::tries, counting::proofs::Refusals::chain))]
 pub fn try_length(given: usize, due: usize) -> Result<(), Refusal>
     ensures { number result ≡ length_refusal given due }
 {
@@ -55,7 +50,6 @@ pub fn try_length(given: usize, due: usize) -> Result<(), Refusal>
 }
 
 // 8: one score.
-#[tactic(auto, using(call_answers::proofs::Refused::tries, counting::proofs::Refusals::chain))]
 fn try_score(scores: &[u16], i: usize) -> Result<(), Refusal>
     requires { i < length scores.now }
     ensures { number result ≡ score_refusal scores.now i }
@@ -76,7 +70,6 @@ pub fn try_scores(scores: &[u16]) -> Result<(), Refusal>
 }
 
 // 24: one weight.
-#[tactic(auto, using(call_answers::proofs::Refused::tries, counting::proofs::Refusals::chain))]
 pub fn try_weight(weight: u8) -> Result<(), Refusal>
     ensures { number result ≡ weight_refusal weight }
 {
@@ -94,7 +87,6 @@ fn try_weights(weights: &[u8]) -> Result<(), Refusal>
 }
 
 // 9, 10, 11: one byte of a row, where a zero and where the same byte stands before it.
-#[tactic(auto, using(call_answers::proofs::Refused::tries, counting::proofs::Refusals::chain))]
 fn try_site(m: usize, ended: bool, again: bool, site: u8) -> Result<(), Refusal>
     ensures { number result ≡ site_refusal m ended again site }
 {
