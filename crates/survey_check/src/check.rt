@@ -1,5 +1,5 @@
 // What is turned down in a survey: each function refuses by the number that its definition gives, and accepts where that is 0.
-ghost use Rattle.std.specs.Prelude.{◌≡◌, ◌+◌, ◌*◌, ◌≤◌, ◌<◌, length, ⊤, MatchResult};
+ghost use Rattle.std.specs.Prelude.{◌≡◌, ◌+◌, ◌*◌, ◌≤◌, ◌<◌, length, IfOk};
 ghost use Rattle.counting.specs.Bounds.{most_sites};
 ghost use Rattle.counting.specs.Words.{outside};
 ghost use Rattle.call_answers.specs.Answers.{number};
@@ -150,7 +150,7 @@ fn try_held(town: Town<'_>) -> Result<(), Refusal>
 }
 
 // A survey with k sites to be chosen; `own` is what the call tries besides between 3 and 8.
-fn try_all(town: Town<'_>, k: usize, own: Result<(), Refusal>) -> Result<(), Refusal>
+fn try_all<T: Copy>(town: Town<'_>, k: usize, own: Result<T, Refusal>) -> Result<(), Refusal>
     ensures { number result ≡ survey_refusal (lent town.entry) k (number own) }
 {
     try_streets(town.n)?;
@@ -164,13 +164,13 @@ fn try_all(town: Town<'_>, k: usize, own: Result<(), Refusal>) -> Result<(), Ref
 }
 
 // The same, with the town as one that is accepted.
-pub fn try_survey<'a>(
+pub fn try_survey<'a, T: Copy>(
     town: Town<'a>,
     k: usize,
-    own: Result<(), Refusal>,
+    own: Result<T, Refusal>,
 ) -> Result<AcceptedTown<'a>, Refusal>
     ensures refusal { number result ≡ survey_refusal (lent town.entry) k (number own) }
-    ensures same_town { MatchResult result (λ a. a.town ≡ town.entry) (λ e. ⊤) }
+    ensures same_town { IfOk result (λ a. a.town ≡ town.entry) }
 {
     try_all(town, k, own)?;
     Ok(AcceptedTown { town })
