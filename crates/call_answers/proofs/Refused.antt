@@ -53,10 +53,13 @@ loop-refused i n f e l z q = sym (first_found i n f (number_of e) l z q (λ w. n
 pub loop_done : (i n : ℕ) (f : ℕ → ℕ) → n ≤ i → i ≤ n → first_nonzero i f ≡ 0 → first_nonzero n f ≡ 0
 loop_done i n f l k z = sym (first_done i n f l k z)
 
--- the same of what a `?` in the loop hands out
+-- the same of what a `?` hands out
 pub handed : {T : Type 0} (r : Result T Refusal) (e : Refusal) → IsErrAnd r (λ y. y ≡ e) → number r ≡ number_of e
 handed (Ok x) e h = absurd h
 handed (Err y) e h = rw h
+
+pub or-error : {T : Type 0} (r : Result T Refusal) (e : Refusal) (a b : ℕ) → IsErrAnd r (λ y. y ≡ e) → number_of e ≡ a → number r ≡ a or_else b
+or-error r e a b h q = handed r e h ∙ sym (or-refused e a b q)
 
 pub loop-error : {T : Type 0} (i n : ℕ) (f : ℕ → ℕ) (r : Result T Refusal) (e : Refusal) → first_nonzero i f ≡ 0 → IsErrAnd r (λ y. y ≡ e) → number_of e ≡ f i
     → i < n → number r ≡ first_nonzero n f

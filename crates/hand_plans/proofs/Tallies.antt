@@ -1,7 +1,7 @@
 -- Laws of the table of the sites' numbers of streets, and of the two tests that a hand plan's sites are put to.
 -- Assumes nothing.
 use mathlib.Core.Path.{◌≡◌, refl, ap, ◌∙◌}
-use mathlib.Core.Bool.{Bool}
+use mathlib.Core.Bool.{Bool, true, false, not}
 use mathlib.Core.Logic.{⊎_elim}
 use mathlib.Core.List.{List, []}
 use Prim.Native.Nat.{ℕ, suc, ◌+◌, ◌≤◌, ◌<◌}
@@ -12,7 +12,7 @@ use lib.Dec.{ltb, eqb}
 use lib.ListN.{length, take}
 use lib.Seq.{take_all}
 use borrow.Author.Tests.{lt-ltb, le-ltb, eq-eqb, ne_eqb}
-use Rattle.counting.specs.Words.{one, count_of}
+use Rattle.counting.specs.Words.{◌when◌, ◌unless◌, one, count_of}
 use Rattle.counting.specs.Lists.{at, count}
 use Rattle.counting.proofs.Membership.{one-not}
 use Rattle.counting.proofs.Listed.{count_most}
@@ -88,6 +88,12 @@ module _ (counts division : List ℕ) (m x : ℕ) (few : m ≤ 64) (h : Summed (
 
   pub share-counted : (q : ℕ) → x ≡ count_of m (λ i. between q q (at counts (suc i))) → x ≡ sites_with (eqb q) m division
   share-counted q e = e ∙ sites-counted counts division m (between q q) few h ∙ share-sites q m division
+
+-- a number that is refused where it is not the one that is due
+pub when-not : (x : ℕ) (t : Bool) → x when not t ≡ x unless t
+unfolding ◌when◌ ◌unless◌
+when-not x true = refl
+when-not x false = refl
 
 -- ---- the total
 -- no street is added yet

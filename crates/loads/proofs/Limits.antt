@@ -3,7 +3,7 @@
 use mathlib.Core.Path.{◌≡◌, refl, sym}
 use mathlib.Core.Logic.{by_cases}
 use mathlib.Core.List.{List}
-use Prim.Native.Nat.{ℕ, suc, ◌≤◌, ◌<◌}
+use Prim.Native.Nat.{ℕ, suc, ◌+◌, ◌≤◌, ◌<◌}
 use native.Mathlib.Decide.{dec_lt}
 use native.Mathlib.Omega.{arith}
 use lib.Dec.{ltb, lit<}
@@ -11,10 +11,11 @@ use lib.ListN.{length}
 use borrow.Author.Tests.{ltb-false, lt-ltb, le-ltb}
 use Rattle.counting.specs.Words.{◌when◌, ◌or_else◌}
 use Rattle.counting.specs.Lists.{at}
-use Rattle.counting.proofs.Refusals.{or-zero, or-stop, or-pass, when-zero, when-yes, when-none, first-none, first-zeros, first_found}
+use Rattle.counting.proofs.Refusals.{or-zero, or-pass, when-zero, when-yes, when-none, first-none, first-zeros}
 use Rattle.counting.proofs.Sums.{at-past}
 use Rattle.loads.specs.Loads.{most_load, Load, Loads, above_refusal, site_load, over_refusal, limits_refusal, Within}
-use Rattle.loads.specs.Sums.{FirstOver}
+use Rattle.loads.specs.Sums.{Summed}
+use Rattle.loads.proofs.SiteSums.{summed-site}
 
 -- ---- 21
 -- a list that is not refused has no number above 1,000,000
@@ -27,7 +28,7 @@ above-none numbers e j =
 -- ---- 22 and 23
 module _ (l : Loads) (division : List ℕ) where
   -- what is tried of the site i + 1
-  abbrev tried : ℕ → ℕ
+  abbrev pub tried : ℕ → ℕ
   tried i = over_refusal 22 l.kilograms division i or_else over_refusal 23 l.litres division i
 
   -- the site is within its limit of a kind
@@ -59,19 +60,9 @@ module _ (l : Loads) (division : List ℕ) where
   pub within-limits : (m : ℕ) → Within m l division → limits_refusal m l division ≡ 0
   within-limits m w = first-zeros m tried (λ i h. quiet i (w.kilograms i h) (w.litres i h))
 
-  -- by the first site of m that is over its kilograms, and the first that is over its litres
-  module _ (m by-kilograms by-litres : ℕ) (k : FirstOver l.kilograms division by-kilograms) (h : FirstOver l.litres division by-litres)
-      (kilogram-limits : length l.kilograms.limits ≡ m) (litre-limits : length l.litres.limits ≡ m) where
-    pub over-litres : by-litres < by-kilograms → 23 ≡ limits_refusal m l division
-    over-litres lower =
-        let here = h.here (omega (arith, k.upto)) in
-        first_found by-litres m tried 23 (omega (arith, k.upto)) (first-zeros by-litres tried (λ i b. quiet i (k.before i (omega arith)) (h.before i b)))
-        (or-pass 23 0 _ _ (not-over 22 l.kilograms by-litres (k.before by-litres lower)) refl (is-over 23 l.litres by-litres here)) (λ z. omega arith)
-
-    pub over-kilograms : by-kilograms ≤ by-litres → by-kilograms < m → 22 ≡ limits_refusal m l division
-    over-kilograms first within =
-        first_found by-kilograms m tried 22 within (first-zeros by-kilograms tried (λ i b. quiet i (k.before i b) (h.before i (omega arith))))
-        (or-stop 22 _ _ (is-over 22 l.kilograms by-kilograms (k.here (omega arith))) (λ z. omega arith)) (λ z. omega arith)
-
-    pub none_over : by-kilograms ≤ by-litres → m ≤ by-kilograms → 0 ≡ limits_refusal m l division
-    none_over first all = sym (first-zeros m tried (λ i b. quiet i (k.before i (omega arith)) (h.before i (omega arith))))
+  -- what the sums of the site a + 1 are tried for is what is tried of it
+  pub site-tried : (kilograms litres : List ℕ) (a x : ℕ) → Summed (at l.kilograms.streets) kilograms division → Summed (at l.litres.streets) litres division
+      → a < 64 → x ≡ (22 when ltb (at l.kilograms.limits a) (at kilograms (a + 1)) or_else 23 when ltb (at l.litres.limits a) (at litres (a + 1)))
+      → x ≡ tried a
+  site-tried kilograms litres a x k h small e =
+      rw (summed-site (at l.kilograms.streets) kilograms division a k (omega arith), summed-site (at l.litres.streets) litres division a h (omega arith)) at e

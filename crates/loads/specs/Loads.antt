@@ -6,6 +6,7 @@ use Rattle.counting.specs.Words.{◌when◌, ◌or_else◌, first_nonzero}
 use Rattle.counting.specs.Lists.{at}
 use Rattle.survey.specs.Refusals.{length_refusal}
 use Rattle.division.specs.Shares.{division_total}
+use Rattle.loads.specs.declared.Loads as code
 
 -- the greatest load of a street, and the greatest limit of a site
 abbrev pub most_load : ℕ
@@ -29,9 +30,9 @@ abbrev pub loads_of : List ℕ → List ℕ → List ℕ → List ℕ → Loads
 loads_of kilograms litres kilogram_limits litre_limits =
     record { kilograms = load_of kilograms kilogram_limits; litres = load_of litres litre_limits }
 
--- the loads that a call is lent
-abbrev pub loads_lent : List ℕ → List ℕ → List ℕ → List ℕ → Loads
-loads_lent kilograms litres kilogram_limits litre_limits = loads_of kilograms litres kilogram_limits litre_limits
+-- the loads that a caller lends
+abbrev pub loads_lent : code.Loads → Loads
+loads_lent l = loads_of l.kilograms.now l.litres.now l.kilogram_limits.now l.litre_limits.now
 
 -- 6: a load of each kind for each street, and a limit of each kind for each site
 abbrev pub lengths_refusal : ℕ → ℕ → Loads → ℕ

@@ -1,7 +1,7 @@
 -- What an accepted call holds: its survey, the number of sites, the list of sites that it was given, a street for each site, and the lengths of
 -- the buffers that it was lent.
 -- Assumes nothing.
-use mathlib.Core.Path.{◌≡◌, sym, subst, ◌∙◌}
+use mathlib.Core.Path.{◌≡◌, sym, subst}
 use mathlib.Core.Bool.{true}
 use mathlib.Core.Logic.{by_cases}
 use mathlib.Core.List.{List}
@@ -22,7 +22,8 @@ use Rattle.survey.specs.Refusals.{share_refusal, length_refusal, survey_refusal}
 use Rattle.survey.specs.Accepted.{Accepted}
 use Rattle.survey.proofs.Sound.{accepted, own-accepted, chosen-within}
 use Rattle.refusals.specs.Inputs.{SurveyInput, ListInput, DivisionInput, PlanInput}
-use Rattle.refusals.specs.Refusals.{Tried, range_refusal, ranges_refusal, list_refusal, listed_refusal, list_total_refusal, free_division_refusal}
+use Rattle.call_answers.specs.Answers.{Tried}
+use Rattle.refusals.specs.Refusals.{range_refusal, ranges_refusal, list_refusal, listed_refusal, list_total_refusal, free_division_refusal}
 use Rattle.refusals.specs.Refusals.{balance_refusal, balanced_division_refusal, buffers_refusal, plan_kind_refusal, plan_refusal, floor_refusal}
 
 -- ---- sites that are not refused: each is one of 1 to m
@@ -63,9 +64,9 @@ pub record Listed (t : Town) (sites : List ℕ) : Type 0 where
 pub listed-low : {t : Town} {sites : List ℕ} → Listed t sites → (i : ℕ) → at sites i ≤ t.m
 listed-low {t} {sites} l = list-low t.m sites l.list
 
--- what a call's tries gave is 0: nothing of its chain applies
-pub passed : {A : Type 0} {chain : A → ℕ} {input : A} {x : ℕ} → Tried chain input x → x ≡ 0 → chain input ≡ 0
-passed tried z = sym tried.first ∙ z
+-- a call's tries refused nothing: nothing of its chain applies
+pub passed : {A : Type 0} {chain : A → ℕ} {input : A} → Tried chain input 0 → chain input ≡ 0
+passed tried = sym tried.first
 
 pub called : (t : Town) (k own : ℕ) → survey_refusal t k own ≡ 0 → Called t k
 called t k own e = let (some, few) = chosen-within t k own e in record { survey = accepted t k own e; some = some; few = few }
@@ -98,36 +99,36 @@ module _ (t : Town) (sites : List ℕ) (own : ℕ) (e : listed_refusal t sites o
   pub listed-own : own ≡ 0
   listed-own = own-accepted t (length sites) own both.0
 
-pub list-total-listed : {i : ListInput} {x : ℕ} → Tried list_total_refusal i x → x ≡ 0 → Listed i.town i.sites
-list-total-listed {i} tried z = listed i.town i.sites 0 (passed tried z)
+pub list-total-listed : {i : ListInput} → Tried list_total_refusal i 0 → Listed i.town i.sites
+list-total-listed {i} tried = listed i.town i.sites 0 (passed tried)
 
-module _ {i : DivisionInput} {x : ℕ} (tried : Tried free_division_refusal i x) (z : x ≡ 0) where
+module _ {i : DivisionInput} (tried : Tried free_division_refusal i 0) where
   pub free-division-listed : Listed i.town i.sites
-  free-division-listed = listed i.town i.sites _ (passed tried z)
+  free-division-listed = listed i.town i.sites _ (passed tried)
 
   pub free-division-fits : length i.division ≡ i.town.n
-  free-division-fits = fits (length i.division) i.town.n (listed-own i.town i.sites _ (passed tried z))
+  free-division-fits = fits (length i.division) i.town.n (listed-own i.town i.sites _ (passed tried))
 
-module _ {i : DivisionInput} {x : ℕ} (tried : Tried balanced_division_refusal i x) (z : x ≡ 0) where
+module _ {i : DivisionInput} (tried : Tried balanced_division_refusal i 0) where
   pub balanced-division-listed : Listed i.town i.sites
-  balanced-division-listed = listed i.town i.sites _ (passed tried z)
+  balanced-division-listed = listed i.town i.sites _ (passed tried)
 
   pub balanced-division-fits : length i.division ≡ i.town.n
-  balanced-division-fits = balance-fits i.town.n (length i.sites) i.division (listed-own i.town i.sites _ (passed tried z))
+  balanced-division-fits = balance-fits i.town.n (length i.sites) i.division (listed-own i.town i.sites _ (passed tried))
 
-module _ {i : PlanInput} {x : ℕ} (tried : Tried plan_refusal i x) (z : x ≡ 0) where
+module _ {i : PlanInput} (tried : Tried plan_refusal i 0) where
   -- its buffers have a place for each street and for each site
   pub plan-fits : (length i.division ≡ i.town.n) × (length i.chosen ≡ i.k)
   plan-fits =
       buffers-fit i.town.n i.k i.division i.chosen
-      (or-zero (plan_kind_refusal i.kind i.town.n i.k) _ (own-accepted i.town i.k _ (passed tried z))).1
+      (or-zero (plan_kind_refusal i.kind i.town.n i.k) _ (own-accepted i.town i.k _ (passed tried))).1
 
   -- so the survey is sound, and there is a place for one site at least and for m at most
   pub plan-asked : Accepted i.town × (0 < length i.chosen) × (length i.chosen ≤ i.town.m)
   plan-asked =
-      let call = called i.town i.k _ (passed tried z) in
+      let call = called i.town i.k _ (passed tried) in
       (call.survey, omega (arith, plan-fits.1, call.some), omega (arith, plan-fits.1, call.few))
 
 -- a floor has a sound survey and a number of sites of 1 to m
-pub floor-called : {i : SurveyInput} {x : ℕ} → Tried floor_refusal i x → x ≡ 0 → Called i.town i.k
-floor-called {i} tried z = called i.town i.k _ (passed tried z)
+pub floor-called : {i : SurveyInput} → Tried floor_refusal i 0 → Called i.town i.k
+floor-called {i} tried = called i.town i.k _ (passed tried)

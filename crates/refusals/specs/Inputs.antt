@@ -1,9 +1,9 @@
 -- What each call is given, in one record: a further input of a call is a further field. A buffer that is lent stands here as it is when the
--- call begins. Each record is written in one place, `.._of`; `.._lent` is the input of a call by its parameters, for its contract.
+-- call begins. Each record is written in one place, `.._of`; `.._lent` is the input of a call on a file by its parameters, for its contract.
 -- Assumes nothing.
 use Rattle.std.specs.Prelude.{ℕ, Bool, List}
 use Rattle.survey.specs.Town.{Town, town_of}
-use Rattle.loads.specs.Loads.{Loads, loads_lent}
+use Rattle.loads.specs.Loads.{Loads}
 use Rattle.survey_file.specs.Filed.{Filed, filed_of}
 
 -- a survey with k sites to be chosen: check and floor
@@ -13,9 +13,6 @@ pub record SurveyInput : Type 0 where
 
 abbrev pub survey_of : Town → ℕ → SurveyInput
 survey_of t k = record { town = t; k = k }
-
-abbrev pub survey_lent : ℕ → ℕ → ℕ → List ℕ → List ℕ → List ℕ → SurveyInput
-survey_lent n m k scores weights rows = survey_of (town_of n m scores weights rows) k
 
 -- one row of m bytes and one site, with the scores and the street's weight
 pub record RowInput : Type 0 where
@@ -28,9 +25,6 @@ pub record RowInput : Type 0 where
 abbrev pub row_input_of : ℕ → List ℕ → ℕ → List ℕ → ℕ → RowInput
 row_input_of m scores weight row site = record { m = m; scores = scores; weight = weight; row = row; site = site }
 
-abbrev pub row_lent : ℕ → List ℕ → ℕ → List ℕ → ℕ → RowInput
-row_lent m scores weight row site = row_input_of m scores weight row site
-
 -- a given list of sites: its total
 pub record ListInput : Type 0 where
   pub town : Town
@@ -38,9 +32,6 @@ pub record ListInput : Type 0 where
 
 abbrev pub list_input_of : Town → List ℕ → ListInput
 list_input_of t sites = record { town = t; sites = sites }
-
-abbrev pub list_lent : ℕ → ℕ → List ℕ → List ℕ → List ℕ → List ℕ → ListInput
-list_lent n m scores weights rows sites = list_input_of (town_of n m scores weights rows) sites
 
 -- the same with a buffer for the division over it, free or balanced
 pub record DivisionInput : Type 0 where
@@ -50,9 +41,6 @@ pub record DivisionInput : Type 0 where
 
 abbrev pub division_of : Town → List ℕ → List ℕ → DivisionInput
 division_of t sites division = record { town = t; sites = sites; division = division }
-
-abbrev pub division_lent : ℕ → ℕ → List ℕ → List ℕ → List ℕ → List ℕ → List ℕ → DivisionInput
-division_lent n m scores weights rows sites division = division_of (town_of n m scores weights rows) sites division
 
 -- a plan of k sites of a kind, with a buffer for the division and one for the sites
 pub record PlanInput : Type 0 where
@@ -65,9 +53,6 @@ pub record PlanInput : Type 0 where
 abbrev pub plan_of : Town → ℕ → ℕ → List ℕ → List ℕ → PlanInput
 plan_of t k kind division chosen = record { town = t; k = k; kind = kind; division = division; chosen = chosen }
 
-abbrev pub plan_lent : ℕ → ℕ → ℕ → ℕ → List ℕ → List ℕ → List ℕ → List ℕ → List ℕ → PlanInput
-plan_lent n m k kind scores weights rows division chosen = plan_of (town_of n m scores weights rows) k kind division chosen
-
 -- a hand-made plan of k sites of a kind: a site for each street, the total that is claimed, and what the streets bring to their sites
 pub record HandInput : Type 0 where
   pub town : Town
@@ -79,10 +64,6 @@ pub record HandInput : Type 0 where
 
 abbrev pub hand_of : Town → ℕ → ℕ → List ℕ → ℕ → Loads → HandInput
 hand_of t k kind division claimed loads = record { town = t; k = k; kind = kind; division = division; claimed = claimed; loads = loads }
-
-abbrev pub hand_lent : ℕ → ℕ → ℕ → ℕ → List ℕ → List ℕ → List ℕ → List ℕ → ℕ → List ℕ → List ℕ → List ℕ → List ℕ → HandInput
-hand_lent n m k kind scores weights rows division claimed kilograms litres kilogram_limits litre_limits =
-    hand_of (town_of n m scores weights rows) k kind division claimed (loads_lent kilograms litres kilogram_limits litre_limits)
 
 -- what a file is to hold, its form among it, and a buffer for the file
 pub record WriteInput : Type 0 where

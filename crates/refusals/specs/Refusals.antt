@@ -5,6 +5,7 @@ use Rattle.std.specs.Prelude.{ℕ, suc, ◌-◌, ◌≡◌, Bool, List, ltb, eqb
 use Rattle.counting.specs.Bounds.{most_streets, most_sites, most_rows}
 use Rattle.counting.specs.Words.{◌when◌, ◌unless◌, ◌or_else◌, first_nonzero, count_of, outside}
 use Rattle.counting.specs.Lists.{at, has, count}
+pub use Rattle.call_answers.specs.Answers.{Tried}
 use Rattle.survey.specs.Town.{Town}
 use Rattle.survey.specs.Rows.{value}
 use Rattle.survey.specs.ByKind.{by_kind}
@@ -17,10 +18,6 @@ use Rattle.survey_file.specs.Encode.{encode}
 use Rattle.survey_file.specs.Decode.{file_refusal, town_in}
 use Rattle.survey_file.specs.FileBuffers.{converted}
 use Rattle.refusals.specs.Inputs.{SurveyInput, RowInput, ListInput, DivisionInput, PlanInput, HandInput, WriteInput, ReadInput, ConvertInput}
-
--- the number that a call's tries gave for an input is the first of the call's chain
-pub record Tried {A : Type 0} (chain : A → ℕ) (input : A) (x : ℕ) : Type 0 where
-  pub first : x ≡ chain input
 
 -- check of a survey
 abbrev pub check_refusal : SurveyInput → ℕ

@@ -1,5 +1,5 @@
 // What is turned down in a survey: each function refuses by the number that its definition gives, and accepts where that is 0.
-ghost use Rattle.std.specs.Prelude.{◌≡◌, ◌+◌, ◌*◌, ◌≤◌, ◌<◌, length, ⊤, MatchResult};
+ghost use Rattle.std.specs.Prelude.{◌≡◌, ◌+◌, ◌*◌, ◌≤◌, ◌<◌, length, IfOk};
 ghost use Rattle.counting.specs.Bounds.{most_sites};
 ghost use Rattle.counting.specs.Words.{outside};
 ghost use Rattle.call_answers.specs.Answers.{number};
@@ -15,7 +15,6 @@ use survey::accepted::AcceptedTown;
 use survey::{Survey, Town};
 
 // Whether a number is below the one bound or above the other.
-#[tactic(auto, using(call_answers::proofs::Refused::tries, counting::proofs::Refusals::chain))]
 pub fn outside(x: usize, low: usize, high: usize) -> bool
     ensures { result ≡ outside x low high }
 {
@@ -23,7 +22,6 @@ pub fn outside(x: usize, low: usize, high: usize) -> bool
 }
 
 // 1: the number of streets.
-#[tactic(auto, using(call_answers::proofs::Refused::tries, counting::proofs::Refusals::chain))]
 pub fn try_streets(n: usize) -> Result<(), Refusal>
     ensures { number result ≡ streets_refusal n }
 {
@@ -31,7 +29,6 @@ pub fn try_streets(n: usize) -> Result<(), Refusal>
 }
 
 // 2: the number of sites.
-#[tactic(auto, using(call_answers::proofs::Refused::tries, counting::proofs::Refusals::chain))]
 pub fn try_sites(m: usize) -> Result<(), Refusal>
     ensures { number result ≡ sites_refusal m }
 {
@@ -39,7 +36,6 @@ pub fn try_sites(m: usize) -> Result<(), Refusal>
 }
 
 // 3: the number of chosen sites, or the length of a given list of sites.
-#[tactic(auto, using(call_answers::proofs::Refused::tries, counting::proofs::Refusals::chain))]
 pub fn try_chosen(k: usize, m: usize) -> Result<(), Refusal>
     ensures { number result ≡ chosen_refusal k m }
 {
@@ -47,7 +43,6 @@ pub fn try_chosen(k: usize, m: usize) -> Result<(), Refusal>
 }
 
 // 6: a lent buffer of other than its exact length.
-#[tactic(auto, using(call_answers::proofs::Refused::tries, counting::proofs::Refusals::chain))]
 pub fn try_length(given: usize, due: usize) -> Result<(), Refusal>
     ensures { number result ≡ length_refusal given due }
 {
@@ -55,7 +50,6 @@ pub fn try_length(given: usize, due: usize) -> Result<(), Refusal>
 }
 
 // 8: one score.
-#[tactic(auto, using(call_answers::proofs::Refused::tries, counting::proofs::Refusals::chain))]
 fn try_score(scores: &[u16], i: usize) -> Result<(), Refusal>
     requires { i < length scores.now }
     ensures { number result ≡ score_refusal scores.now i }
@@ -76,7 +70,6 @@ pub fn try_scores(scores: &[u16]) -> Result<(), Refusal>
 }
 
 // 24: one weight.
-#[tactic(auto, using(call_answers::proofs::Refused::tries, counting::proofs::Refusals::chain))]
 pub fn try_weight(weight: u8) -> Result<(), Refusal>
     ensures { number result ≡ weight_refusal weight }
 {
@@ -94,7 +87,6 @@ pub fn try_weights(weights: &[u8]) -> Result<(), Refusal>
 }
 
 // 9, 10, 11: one byte of a row, where a zero and where the same byte stands before it.
-#[tactic(auto, using(call_answers::proofs::Refused::tries, counting::proofs::Refusals::chain))]
 fn try_site(m: usize, ended: bool, again: bool, site: u8) -> Result<(), Refusal>
     ensures { number result ≡ site_refusal m ended again site }
 {
@@ -158,7 +150,7 @@ fn try_held(town: Town<'_>) -> Result<(), Refusal>
 }
 
 // A survey with k sites to be chosen; `own` is what the call tries besides between 3 and 8.
-fn try_all(town: Town<'_>, k: usize, own: Result<(), Refusal>) -> Result<(), Refusal>
+fn try_all<T: Copy>(town: Town<'_>, k: usize, own: Result<T, Refusal>) -> Result<(), Refusal>
     ensures { number result ≡ survey_refusal (lent town.entry) k (number own) }
 {
     try_streets(town.n)?;
@@ -172,13 +164,13 @@ fn try_all(town: Town<'_>, k: usize, own: Result<(), Refusal>) -> Result<(), Ref
 }
 
 // The same, with the town as one that is accepted.
-pub fn try_survey<'a>(
+pub fn try_survey<'a, T: Copy>(
     town: Town<'a>,
     k: usize,
-    own: Result<(), Refusal>,
+    own: Result<T, Refusal>,
 ) -> Result<AcceptedTown<'a>, Refusal>
     ensures refusal { number result ≡ survey_refusal (lent town.entry) k (number own) }
-    ensures same_town { MatchResult result (λ a. a.town ≡ town.entry) (λ e. ⊤) }
+    ensures same_town { IfOk result (λ a. a.town ≡ town.entry) }
 {
     try_all(town, k, own)?;
     Ok(AcceptedTown { town })

@@ -1,5 +1,5 @@
-// The check of a survey: the first number that applies to it, or 0.
-#![tactic(auto, using(call_answers::proofs::Refused::tries))]
+// The check of a survey: its first refusal, or the town as one that is accepted.
+#![tactic(auto, using(call_answers::proofs::Refused::tries, counting::proofs::Refusals::chain))]
 
 pub mod check;
 mod quick;

@@ -1,22 +1,23 @@
-use borrow.Author.Rules.{rules}
-use Rattle.loads.proofs.SiteSums.{summed-none, summed-room, summed-more}
+use Prim.Native.Nat.{◌<◌}
 use native.Mathlib.Omega.{arith}
-use mathlib.Core.Path.{refl}
+use Rattle.counting.specs.Lists.{at}
+use Rattle.loads.proofs.SiteSums.{summed-none, summed-room, summed-more}
 use Rattle.hand_plans.proofs.count_streets.Goals as goal
 
-pub loop-s-init : goal.loop-s-init
-loop-s-init c = (search rules, refl, summed-none (λ i. 1))
+pub loop-site-init : goal.loop-site-init
+loop-site-init c = summed-none (λ i. 1)
 
 pub overflow_add-counts : goal.overflow_add-counts
 overflow_add-counts c =
-    let l = c.loop-s in
-    let given = c.type_inv.division l.s in
+    let l = c.loop-site in
     let division = c.args.division.now in
-    omega (arith, summed-room (λ i. 1) l.counts division l.s (omega arith) (omega (arith, given)) l.invariant.2 1 (λ i. omega arith))
+    let small : at division l.site-index < 256 = omega (arith, c.type_inv.division l.site-index) in
+    let room = summed-room (λ i. 1) l.counts division l.site-index c.loop-site-test.true small l.invariant 1 (λ i. omega arith) in
+    rw c.from.ensures (omega (arith, room))
 
-pub loop-s-preserved : goal.loop-s-preserved
-loop-s-preserved c =
-    let l = c.loop-s in
-    let given = c.type_inv.division l.s in
+pub loop-site-preserved : goal.loop-site-preserved
+loop-site-preserved c =
+    let l = c.loop-site in
     let division = c.args.division.now in
-    (omega arith, refl, summed-more (λ i. 1) l.counts division l.s (omega arith) (omega (arith, given)) l.invariant.2)
+    let small : at division l.site-index < 256 = omega (arith, c.type_inv.division l.site-index) in
+    rw c.from.ensures (summed-more (λ i. 1) l.counts division l.site-index c.loop-site-test.true small l.invariant)

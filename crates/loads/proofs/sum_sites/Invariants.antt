@@ -1,9 +1,7 @@
-use mathlib.Core.Path.{◌≡◌}
-use Prim.Native.Nat.{◌≤◌}
-use lib.ListN.{length, take}
+use lib.ListN.{take}
 use Rattle.counting.specs.Lists.{at}
 use Rattle.loads.specs.Sums.{Summed}
 use Rattle.loads.proofs.sum_sites.Given as goal
 
 abbrev pub invariant-loop-s : goal.invariant-loop-s
-invariant-loop-s l = (l.s ≤ l.s-end) × (l.s-end ≡ length l.division) × Summed (at l.loads) l.sums (take l.s l.division)
+invariant-loop-s l = Summed (at l.loads) l.sums (take l.s l.division)

@@ -1,0 +1,19 @@
+use borrow.Author.Rules.{rules}
+use native.Mathlib.Omega.{arith}
+use Rattle.counting.proofs.Refusals.{first-quiet}
+use Rattle.call_answers.proofs.Refused.{loop-error}
+use Rattle.loads.specs.Loads.{loads_lent}
+use Rattle.loads.proofs.Limits.{site-tried}
+use Rattle.loads.proofs.Loads.try_limits.Goals as goal
+
+pub returns-in_err-try_site : goal.returns-in_err-try_site
+returns-in_err-try_site c =
+    let here = site-tried (loads_lent c.args.self) c.args.division.now _ _ c.loop-a.a _
+    c.sum_sites-kilograms.ensures c.sum_sites-litres.ensures (omega arith) c.in_err-try_site.ensures in
+    loop-error c.loop-a.a _ _ _ _ c.loop-a.invariant (search rules) here c.loop-a-test.true
+
+pub loop-a-preserved : goal.loop-a-preserved
+loop-a-preserved c =
+    let here = site-tried (loads_lent c.args.self) c.args.division.now _ _ c.loop-a.a _
+    c.sum_sites-kilograms.ensures c.sum_sites-litres.ensures (omega arith) c.in_ok-try_site.ensures in
+    first-quiet c.loop-a.a _ c.loop-a.invariant here
