@@ -1,2 +1,0 @@
-pub mod WriteTries
-pub mod SizesGiven

@@ -1,108 +1,81 @@
-// What the calls on files turn down: the number that its definition gives, and 0 where the call is accepted.
-#![tactic(auto)]
+// What the calls on files turn down: each answers by the first number of its definition, or hands on what it has accepted.
+#![tactic(auto, using(call_answers::proofs::Refused::tries, counting::proofs::Refusals::chain))]
 
-ghost use Rattle.std.specs.Prelude.{◌≡◌, ltb, length};
+ghost use Rattle.std.specs.Prelude.{◌≡◌, length, ltb, IfOk};
 ghost use Rattle.counting.specs.Words.{◌when◌, ◌or_else◌};
-ghost use Rattle.survey_file.specs.Filed.{form_refusal};
-ghost use Rattle.survey_file.specs.Decode.{town_in, FileTaken};
+ghost use Rattle.call_answers.specs.Answers.{number, Tried};
+ghost use Rattle.survey.specs.Town.{lent};
+ghost use Rattle.survey_file.specs.Filed.{filed_of, form_refusal};
+ghost use Rattle.survey_file.specs.Decode.{town_in};
+ghost use Rattle.survey_file.specs.Sizes.{sizes_in};
 ghost use Rattle.survey_file.specs.FileBuffers.{converted};
-ghost use Rattle.refusals.specs.Inputs.{write_lent, read_lent, convert_lent};
-ghost use Rattle.refusals.specs.Refusals.{Tried, read_refusal, write_refusal, convert_refusal};
-ghost use Rattle.file_refusals.specs.ReadSizes.{SizesTried};
+ghost use Rattle.refusals.specs.Inputs.{write_of, read_of, convert_of};
+ghost use Rattle.refusals.specs.Refusals.{write_refusal, read_refusal, convert_refusal};
 
-use file_reader::Checked;
-use survey::Survey;
+use call_answers::Refusal;
+use survey::accepted::AcceptedTown;
+use survey::{Survey, Town};
 use survey_check::check;
+use survey_file::taken::TakenFile;
 
 // 7: a file buffer that is shorter than the file to be written.
-fn room_refusal(given: usize, due: usize) -> u8
-    ensures { result ≡ 7 when ltb given due }
+fn try_room(given: usize, due: usize) -> Result<(), Refusal>
+    ensures { number result ≡ 7 when ltb given due }
 {
-    if given < due {
-        return 7;
-    }
-    0
+    Refusal::Room.when(given < due)
 }
 
-// Writing a file.
-pub fn write_refusal(
-    n: usize,
-    m: usize,
+// Writing a file: the survey, 25 for a weight that it would lose, and 7.
+pub fn try_write<'a>(
+    town: Town<'a>,
     k: usize,
     kind: usize,
     new_form: bool,
+    file: &[u8],
+) -> Result<AcceptedTown<'a>, Refusal>
+    ensures tried { Tried write_refusal (write_of (filed_of new_form (lent town.entry) k kind) file.now) (number result) }
+    ensures same_town { IfOk result (λ a. a.town ≡ town.entry) }
+{
+    let accepted = check::try_survey(town, k, refusals::try_kind(kind))?;
+    file_writer::try_form(new_form, town.weights)?;
+    try_room(file.len(), file_writer::file_length(accepted, new_form))?;
+    Ok(accepted)
+}
+
+// Reading a file into its three buffers.
+pub fn try_read<'a>(
+    file: &'a [u8],
     scores: &[u16],
     weights: &[u8],
     rows: &[u8],
-    file: &[u8],
-) -> u8
-    ensures { Tried write_refusal (write_lent n m k kind new_form scores.now weights.now rows.now file.now) result }
+) -> Result<TakenFile<'a>, Refusal>
+    ensures tried { Tried read_refusal (read_of file.now scores.now weights.now rows.now) (number result) }
+    ensures taken { IfOk result (λ taken. (taken.file ≡ file.entry) × (taken.sizes ≡ sizes_in file.now)) }
 {
-    let own = refusals::kind_refusal(kind);
-    let r = check::survey_refusal(n, m, k, own, scores, weights, rows);
-    if r != 0 {
-        return r;
-    }
-    let lost = file_writer::form_refusal(new_form, weights);
-    if lost != 0 {
-        return lost;
-    }
-    room_refusal(file.len(), file_writer::file_length(n, m, new_form, rows))
-}
-
-// Reading a file into its three buffers: what its town's record gives, or the number of the first refusal.
-pub fn read_sizes(file: &[u8], scores: &[u16], weights: &[u8], rows: &[u8]) -> Checked
-    ensures { SizesTried read_refusal (read_lent file.now scores.now weights.now rows.now) file.now result }
-{
-    if rows.len() != Survey::ROWS {
-        return Checked::Refused(6);
-    }
-    if scores.len() != Survey::SITES {
-        return Checked::Refused(6);
-    }
-    if weights.len() != Survey::STREETS {
-        return Checked::Refused(6);
-    }
+    check::try_length(rows.len(), Survey::ROWS)?;
+    check::try_length(scores.len(), Survey::SITES)?;
+    check::try_length(weights.len(), Survey::STREETS)?;
     file_reader::check(file)
 }
 
 // What a checked file is refused for besides, where it is wanted in a form: 25, then 7.
-fn made_refusal(file: &[u8], n: usize, m: usize, new_form: bool, wanted: bool, room: usize) -> u8
-    requires { FileTaken file.now n m new_form }
-    ensures { result ≡ form_refusal wanted (town_in file.now).weights or_else 7 when ltb room (length (converted wanted file.now)) }
+fn try_made<'a>(taken: TakenFile<'a>, wanted: bool, room: usize) -> Result<(), Refusal>
+    ensures { number result ≡ form_refusal wanted (town_in taken.entry.file.now).weights or_else 7 when ltb room (length (converted wanted taken.entry.file.now)) }
 {
-    let lost = file_converter::lost_refusal(file, n, m, new_form, wanted);
-    if lost != 0 {
-        return lost;
-    }
-    let size = file_converter::converted_length(file, n, m, new_form, wanted);
-    room_refusal(room, size)
+    file_converter::try_form(taken, wanted)?;
+    try_room(room, file_converter::converted_length(taken, wanted))
 }
 
-// Converting a file: what its town's record gives, or the number of the first refusal.
-pub fn convert_sizes(file: &[u8], wanted: bool, buffer: &[u8]) -> Checked
-    ensures { SizesTried convert_refusal (convert_lent file.now wanted buffer.now) file.now result }
+// Converting a file: as the reader tries it, then 25 and 7.
+pub fn try_convert<'a>(
+    file: &'a [u8],
+    wanted: bool,
+    buffer: &[u8],
+) -> Result<TakenFile<'a>, Refusal>
+    ensures tried { Tried convert_refusal (convert_of file.now wanted buffer.now) (number result) }
+    ensures taken { IfOk result (λ taken. (taken.file ≡ file.entry) × (taken.sizes ≡ sizes_in file.now)) }
 {
-    let found = file_reader::check(file);
-    let Checked::Sizes {
-        n,
-        m,
-        k,
-        kind,
-        new_form,
-    } = found
-    else {
-        return Checked::Refused(file_reader::number_of(found));
-    };
-    let x = made_refusal(file, n, m, new_form, wanted, buffer.len());
-    if x != 0 {
-        return Checked::Refused(x);
-    }
-    Checked::Sizes {
-        n,
-        m,
-        k,
-        kind,
-        new_form,
-    }
+    let taken = file_reader::check(file)?;
+    try_made(taken, wanted, buffer.len())?;
+    Ok(taken)
 }
