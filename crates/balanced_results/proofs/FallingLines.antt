@@ -18,10 +18,10 @@ use Rattle.balanced_plan.specs.Falling.{FallsBy}
 use Rattle.balanced_plan.proofs.Ordered.{ordered-street, ordered-rising, rising-at}
 use Rattle.balanced_rounds.specs.Lines.{Orders, Falls, Falling}
 
--- where all weights are the same, the values of a town's table fall with the places, for a buffer of n streets
-pub table-falls : {t : Town} → Accepted t → Even t.weights → (v : ℕ → ℕ → ℕ) (j : ℕ) → j ≡ t.n
-    → ((s a : ℕ) → s < t.n → a ≤ t.m → v s a ≡ value t s a) → FallsBy (row_key t.m t.rows) v j t.m
-table-falls ok even v j e same a s u l h k first =
+-- where all weights are the same, the values of a town's table fall with the places
+pub table-falls : {t : Town} → Accepted t → Even t.weights → (v : ℕ → ℕ → ℕ) → ((s a : ℕ) → s < t.n → a ≤ t.m → v s a ≡ value t s a)
+    → FallsBy (row_key t.m t.rows) v t.n t.m
+table-falls ok even v same a s u l h k first =
     omega (arith, same s a (omega arith) l, same u a (omega arith) l, even_falls ok even a s u l (omega arith) (omega arith) first)
 
 -- values that fall along the order of a key never rise along lines by it

@@ -6,8 +6,10 @@ use mathlib.Core.List.{List}
 use Prim.Native.Nat.{ℕ, ◌+◌, ◌≤◌, ◌<◌}
 use native.Mathlib.Omega.{arith}
 use lib.ListN.{length}
-use Rattle.counting.specs.Lists.{at}
-use Rattle.tables.specs.Tables.{StreetTable}
+use Rattle.counting.specs.Lists.{at, cell}
+use Rattle.survey.specs.Town.{Town}
+use Rattle.survey.specs.Rows.{value}
+use Rattle.tables.specs.Tables.{StreetTable, value_in}
 use Rattle.division.specs.Shares.{share, InShares, division_total, shares_of, share_sum}
 use Rattle.division.specs.Divide.{divide}
 use Rattle.division.specs.Problem.{Problem}
@@ -17,7 +19,7 @@ use Rattle.division.proofs.Shared.{shares-length, shares_sum}
 use Rattle.shares.specs.Rounds.{round_share}
 use Rattle.shares.proofs.Sums.{shares-all}
 use Rattle.balanced_results.specs.Shareable.{Shareable}
-use Rattle.balanced_results.specs.Plans.{divided_by}
+use Rattle.plans.specs.Plans.{plan_total, shares_for, balanced_division}
 
 -- the values and the shares make a problem
 pub problem : {n m : ℕ} {values : List ℕ} (k : ℕ) (shares : List ℕ) → n ≡ k → StreetTable n m values → length shares ≡ m + 1
@@ -46,25 +48,23 @@ module _ (n : ℕ) {m : ℕ} {list : List ℕ} (ok : Shareable m list) where
 
   module _ (v w : ℕ → ℕ → ℕ) (same : (s a : ℕ) → s < n → a ≤ m → v s a ≡ w s a) where
     -- the division goes by their values
-    pub as-valued : divided_by v n m list ≡ divided_by w n m list
+    pub as-valued : divide v n c ≡ divide w n c
     as-valued = divide-same v w n c for-all (λ s a l h. same s a l (low a h))
 
     -- and so does its total
-    pub total-valued : division_total v (divided_by v n m list) ≡ division_total w (divided_by w n m list)
+    pub total-valued : division_total v (divide v n c) ≡ division_total w (divide w n c)
     total-valued =
-        let D : List ℕ = divided_by w n m list in
+        let D : List ℕ = divide w n c in
         let i : InShares D c = divide-in w n c for-all in
         rw as-valued
         (division_total-same v w D (λ s l. same s (at D s) (omega (arith, divide-length w n c)) (low (at D s) (has-share D c i s l))))
 
--- what the engine gave for the shares as they were lent
-pub given : (v : ℕ → ℕ → ℕ → ℕ) (x w j n : ℕ) (b c F : List ℕ) (t : ℕ) → x ≡ w → j ≡ n → b ≡ c
-    → t ≡ division_total (v x) (divide (v x) j b) → F ≡ divide (v x) j b
-    → (t ≡ division_total (v w) (divide (v w) n c)) × (F ≡ divide (v w) n c)
-given v x w j n b c F t e f g total division = (rw (e, f, g) at total, rw (e, f, g) at division)
-
--- what a division of the table's values is, said of the town's
-pub as-surveyed : (n : ℕ) {m : ℕ} {list : List ℕ} → Shareable m list → (k : ℕ) → k ≡ n → (v w : ℕ → ℕ → ℕ)
-    → ((s a : ℕ) → s < n → a ≤ m → v s a ≡ w s a) → (F : List ℕ) (t : ℕ) → t ≡ division_total v (divided_by v k m list) → F ≡ divided_by v k m list
-    → (t ≡ division_total w (divided_by w n m list)) × (F ≡ divided_by w n m list)
-as-surveyed n ok k e v w same F t total division = ((rw e at total) ∙ total-valued n ok v w same, (rw e at division) ∙ as-valued n ok v w same)
+-- what the engine gave for the table and the shares as they were lent, said of the town
+module _ (t : Town) (values : List ℕ) (same : (s a : ℕ) → s < t.n → a ≤ t.m → value_in values t.m s a ≡ value t s a) {sites : List ℕ}
+    (ok : Shareable t.m sites) {j w : ℕ} {shares : List ℕ} (streets : j ≡ t.n) (width : w ≡ t.m + 1) (given : shares ≡ shares_for t sites) where
+  pub as-surveyed : {F : List ℕ} {x : ℕ} → (x ≡ division_total (cell values w) (divide (cell values w) j shares))
+      × (F ≡ divide (cell values w) j shares) → (x ≡ plan_total t (balanced_division t sites)) × (F ≡ balanced_division t sites)
+  as-surveyed (total, division) = (
+    (rw (streets, width, given) at total) ∙ total-valued t.n ok (value_in values t.m) (value t) same,
+    (rw (streets, width, given) at division) ∙ as-valued t.n ok (value_in values t.m) (value t) same,
+  )

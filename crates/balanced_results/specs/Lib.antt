@@ -1,3 +1,2 @@
 pub mod Shareable
 pub mod Begun
-pub mod Plans

@@ -1,7 +1,7 @@
 // The balanced plan's rounds: a state that holds the sites chosen so far and each street's site, passed by value from round to round.
 #![tactic(auto)]
 
-ghost use Rattle.std.specs.Prelude.{◌≡◌, ℕ, ◌+◌, ◌≤◌, ◌<◌, length};
+ghost use Rattle.std.specs.Prelude.{◌≡◌, ℕ, ◌+◌, ◌≤◌, ◌<◌, length, take};
 ghost use Rattle.counting.specs.Bounds.{most_streets, most_sites};
 ghost use Rattle.counting.specs.Lists.{at};
 ghost use Rattle.counting.specs.Greatest.{greatest};
@@ -97,6 +97,14 @@ impl State {
             flags: [false; 256],
             division: [0u8; counting::STREETS],
         }
+    }
+
+    // The sites chosen so far, in order of choice.
+    pub fn sites(&self) -> &[u8]
+        requires { self.now.count ≤ length self.now.chosen }
+        ensures { result.now ≡ take self.now.count self.now.chosen }
+    {
+        &self.chosen[..self.count]
     }
 
     // The state once a site has been chosen and has taken its streets.

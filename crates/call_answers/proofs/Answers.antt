@@ -8,6 +8,7 @@ use native.Mathlib.Nat.{suc-ne-zero}
 use lib.Dec.{eqb}
 use borrow.Author.Tests.{eq-eqb, ne_eqb, eqb-true}
 use Rattle.std.specs.Prelude.{Result, Ok, Err}
+use Rattle.std.specs.Result.{IsErrAnd}
 use Rattle.counting.specs.Words.{◌when◌}
 use Rattle.counting.specs.Buffers.{after}
 use Rattle.counting.proofs.Refusals.{when-yes, when-none}
@@ -56,6 +57,11 @@ module _ {A : Type 0} {chain : A → ℕ} {i : A} (e : Refusal) (tried : Tried c
   told-refused {t} =
       let none : eqb (chain i) 0 ≡ _ = ne_eqb (chain i) 0 (λ z. numbered e (tried.first ∙ z)) in
       record { right-number = tried.first; right-case = sym none; right-total = when-none t (eqb (chain i) 0) none }
+
+  -- as a `?` hands it out
+  pub told-error : {t : ℕ} (r : Result ℕ Refusal) → IsErrAnd r (λ y. y ≡ e) → Told r (chain i) t
+  told-error (Ok x) h = absurd h
+  told-error (Err y) h = rw h told-refused
 
   -- a lent buffer holds what it held
   pub kept-refused : (new old : List ℕ) → old ≡ after (chain i) new old

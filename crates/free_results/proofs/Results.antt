@@ -1,13 +1,12 @@
 -- Laws of the results: what the engine's state holds, said as totals, divisions and sites of the survey.
 -- Assumes nothing.
-use mathlib.Core.Path.{◌≡◌, sym, ap, ◌∙◌}
-use mathlib.Core.Bool.{Bool, true, false, true≢false}
+use mathlib.Core.Path.{◌≡◌, ap, ◌∙◌}
+use mathlib.Core.Bool.{Bool, true, false}
 use mathlib.Core.List.{List}
 use Prim.Native.Nat.{ℕ, ◌*◌, ◌≤◌, ◌<◌}
 use native.Mathlib.Omega.{arith}
 use native.Mathlib.Decide.{dec_lt}
 use lib.ListN.{length, get_or, take}
-use Rattle.counting.specs.Bounds.{most_streets}
 use Rattle.counting.specs.Words.{◌when◌, sum_of}
 use Rattle.counting.specs.Lists.{at, has}
 use Rattle.counting.specs.Buffers.{list_of}
@@ -35,16 +34,9 @@ weights-ready {t} ok even equal =
     record { size = ok.weights-fit; small = weight-bound t.weights ok.sound-weights; equal = equal }
 
 module _ {t : Town} (ok : Accepted t) {state : State} (held : Held (score t) t.n state) where
-  -- the streets' bests may be summed by their weights
-  pub total-ready : ((length state.bests ≡ most_streets) × (t.n ≤ most_streets) × Scores (take t.n state.bests)) × Weighed t.n t.weights false
-  total-ready = (
-    (held.bests-size, ok.few-streets, bests-small (score t) t.n state held (λ s a. omega (arith, scored-bound ok s a))),
-    weights-ready ok false (λ e. absurd (true≢false (sym e))),
-  )
-
-  -- the streets may be served
-  pub serve-ready : (i : ℕ) → i ≡ t.n → (length t.rows ≡ i * t.m) × (length state.flags ≡ 256)
-  serve-ready i e = (rw e ok.rows_fit, held.flags.size)
+  -- the streets' bests are scores
+  pub bests-ready : Scores (take t.n state.bests)
+  bests-ready = bests-small (score t) t.n state held (λ s a. omega (arith, scored-bound ok s a))
 
   -- a street's list holds sites up to m alone
   list-bound : (s : ℕ) → s < t.n → (j : ℕ) → at (list_of_street t s) j ≤ t.m
@@ -54,26 +46,21 @@ module _ {t : Town} (ok : Accepted t) {state : State} (held : Held (score t) t.n
       go j (yes q) = (ok.sound-rows s l).named j q
       go j (no q) = omega (arith, at-past (row_of t s) j (omega arith))
 
-  module _ {S : List ℕ} (sites : sites_of state ≡ S) where
-    -- the sum is the total of the sites
-    pub total-found : {r : ℕ} → r ≡ sum_of t.n (λ s. at t.weights s * at (take t.n state.bests) s) → r ≡ list_total t S
-    total-found e = e ∙ total-is (at t.weights) (score t) t.n state held ∙ ap (λ (T : List ℕ). list_total t T) sites
+  -- the sum is the total of the sites
+  pub total-found : {r : ℕ} → r ≡ sum_of t.n (λ s. at t.weights s * at (take t.n state.bests) s) → r ≡ list_total t (sites_of state)
+  total-found e = e ∙ total-is (at t.weights) (score t) t.n state held
 
-    -- by the flags a street goes where it goes by the sites
-    goes : (s : ℕ) → s < t.n → goes_to (λ a. get_or state.flags a false) (list_of_street t s) ≡ goes_to (λ a. has a S) (list_of_street t s)
-    goes s l =
-        let list : List ℕ = list_of_street t s in
-        first-same (length list) (chosen_at (λ a. get_or state.flags a false) list) (chosen_at (λ a. has a S) list)
-        (λ j lj.
-        let site = at list j in
-        let low : site < 256 = omega (arith, list-bound s l j, ok.few-sites) in
-        ap (λ (t : Bool). site when t) (held.flags.right site low ∙ ap (λ (T : List ℕ). has site T) sites))
+  -- by the flags a street goes where it goes by the sites
+  goes : {S : List ℕ} → sites_of state ≡ S → (s : ℕ) → s < t.n
+      → goes_to (λ a. get_or state.flags a false) (list_of_street t s) ≡ goes_to (λ a. has a S) (list_of_street t s)
+  goes {S} sites s l =
+      let list : List ℕ = list_of_street t s in
+      first-same (length list) (chosen_at (λ a. get_or state.flags a false) list) (chosen_at (λ a. has a S) list)
+      (λ j lj.
+      let site = at list j in
+      let low : site < 256 = omega (arith, list-bound s l j, ok.few-sites) in
+      ap (λ (t : Bool). site when t) (held.flags.right site low ∙ ap (λ (T : List ℕ). has site T) sites))
 
-    pub served : {i : ℕ} {division : List ℕ} → i ≡ t.n → division ≡ list_of i (λ s. goes_to (λ a. get_or state.flags a false) (list_of_street t s))
-        → division ≡ free_division t S
-    served e d =
-        d ∙ ap (λ (k : ℕ). list_of k (λ s. goes_to (λ a. get_or state.flags a false) (list_of_street t s))) e ∙ list_of-same t.n _ _ (λ s l. goes s l)
-
-    -- the sites come out in order of choice
-    pub copied : {k : ℕ} {chosen : List ℕ} → state.count ≡ k → chosen ≡ take k state.chosen → chosen ≡ S
-    copied e c = c ∙ ap (λ (i : ℕ). take i state.chosen) (sym e) ∙ sites
+  pub served : {S division : List ℕ} → sites_of state ≡ S → division ≡ list_of t.n (λ s. goes_to (λ a. get_or state.flags a false) (list_of_street t s))
+      → division ≡ free_division t S
+  served sites d = d ∙ list_of-same t.n _ _ (λ s l. goes sites s l)

@@ -1,9 +1,8 @@
 -- The state that the engine makes of the table of values, said of the survey.
 -- Assumes nothing.
 use mathlib.Core.Path.{◌≡◌, sym, ap, subst, ◌∙◌}
-use mathlib.Core.List.{List, ◌++◌}
+use mathlib.Core.List.{List}
 use Prim.Native.Nat.{ℕ, ◌+◌, ◌*◌, ◌≤◌, ◌<◌}
-use lib.ListN.{take}
 use Rattle.counting.specs.Lists.{at}
 use Rattle.survey.specs.Town.{Town}
 use Rattle.survey.specs.Rows.{score, value}
@@ -15,22 +14,18 @@ use Rattle.free_plan.proofs.Valued.{AtMost, best-agree, greedy-agree, greedy-mos
 use Rattle.free_rounds.specs.declared.State.{State}
 use Rattle.free_rounds.specs.Held.{Held, counted, sites_of}
 
-module _ {t : Town} (ok : Accepted t) {table : List ℕ} (rest : List ℕ) (h : Tabled (λ a s. score t s a) (t.m + 1) t.n table) where
-  -- the table that the engine reads, and its scores
-  abbrev lent : List ℕ
-  lent = take ((t.m + 1) * t.n) (table ++ rest)
-
+module _ {t : Town} (ok : Accepted t) {table : List ℕ} (h : Tabled (λ a s. score t s a) (t.m + 1) t.n table) where
   abbrev v : ℕ → ℕ → ℕ
-  v = site_value lent t.n
+  v = site_value table t.n
 
   -- the counted scores are the town's values
-  counted_same : (s a : ℕ) → s < t.n → a ≤ t.m → counted t.weights lent t.n s a ≡ value t s a
-  counted_same s a l u = ap (λ (x : ℕ). at t.weights s * x) (site-same ok rest h s a l u)
+  counted_same : (s a : ℕ) → s < t.n → a ≤ t.m → counted t.weights table t.n s a ≡ value t s a
+  counted_same s a l u = ap (λ (x : ℕ). at t.weights s * x) (site-same ok h s a l u)
 
   module _ (k : ℕ) (start : List ℕ) (low : AtMost t.m start) (state : State)
-      (sites : sites_of state ≡ greedy (counted t.weights lent t.n) t.n t.m k start) where
+      (sites : sites_of state ≡ greedy (counted t.weights table t.n) t.n t.m k start) where
     pub sites-planned : sites_of state ≡ greedy (value t) t.n t.m k start
-    sites-planned = sites ∙ greedy-agree (counted t.weights lent t.n) (value t) t.n t.m counted_same k start low
+    sites-planned = sites ∙ greedy-agree (counted t.weights table t.n) (value t) t.n t.m counted_same k start low
 
     pub held-planned : Held v t.n state → Held (score t) t.n state
     held-planned held =
@@ -38,6 +33,6 @@ module _ {t : Town} (ok : Accepted t) {table : List ℕ} (rest : List ℕ) (h : 
           chosen-size = held.chosen-size;
           bests-size = held.bests-size;
           flags = held.flags;
-          bests = λ s l. held.bests s l ∙ best-agree v (score t) t.n t.m (site-same ok rest h) s l (sites_of state)
-              (subst (AtMost t.m) (sym sites) (greedy-most (counted t.weights lent t.n) t.n t.m k start low));
+          bests = λ s l. held.bests s l ∙ best-agree v (score t) t.n t.m (site-same ok h) s l (sites_of state)
+              (subst (AtMost t.m) (sym sites) (greedy-most (counted t.weights table t.n) t.n t.m k start low));
         }

@@ -1,111 +1,75 @@
 // From an accepted survey to the free plan's results: the table is filled, the engine chooses or takes the sites, and the streets are served.
 #![tactic(auto)]
 
-ghost use Rattle.std.specs.Prelude.{◌≡◌, false, ℕ, ◌+◌, ◌*◌, ◌≤◌, length, take};
-ghost use Rattle.counting.specs.Bounds.{most_streets};
-ghost use Rattle.counting.specs.Words.{sum_of};
+ghost use Rattle.std.specs.Prelude.{◌≡◌, ℕ, ◌+◌, ◌≤◌, length};
 ghost use Rattle.counting.specs.Lists.{at};
-ghost use Rattle.survey.specs.Town.{town_of};
+ghost use Rattle.survey.specs.Town.{lent};
 ghost use Rattle.survey.specs.Rows.{score, value};
-ghost use Rattle.survey.specs.Accepted.{Accepted};
 ghost use Rattle.free_plan.specs.Greedy.{greedy};
 ghost use Rattle.plans.specs.Plans.{list_total, free_division, free_sites};
-ghost use Rattle.free_rounds.specs.Held.{Held, Scores, Weighed, sites_of};
+ghost use Rattle.free_rounds.specs.Held.{Held, sites_of};
 
-use free_rounds::State;
+use free_rounds::{State, sums};
+use survey::accepted::AcceptedTown;
+use survey::weights;
 
 mod serve;
 
 // The state after k rounds from a given list of sites.
-fn planned(
-    n: usize,
-    m: usize,
-    scores: &[u16],
-    weights: &[u8],
-    rows: &[u8],
-    sites: &[u8],
-    k: usize,
-) -> State
-    requires accepted { Accepted (town_of n m scores.now weights.now rows.now) }
-    requires k_len_bound { (length sites.now + k ≤ m) × ((i : ℕ) → at sites.now i ≤ m) }
-    ensures sites { (result.count ≡ length sites.now + k) × (sites_of result ≡ greedy (value (town_of n m scores.now weights.now rows.now)) n m k sites.now) }
-    ensures held { Held (score (town_of n m scores.now weights.now rows.now)) n result }
+fn planned(town: AcceptedTown<'_>, sites: &[u8], k: usize) -> State
+    requires { (length sites.now + k ≤ town.town.m) × ((i : ℕ) → at sites.now i ≤ town.town.m) }
+    ensures sites { (result.count ≡ length sites.now + k)
+        × (sites_of result ≡ greedy (value (lent town.entry.town)) town.entry.town.n town.entry.town.m k sites.now) }
+    ensures held { Held (score (lent town.entry.town)) town.entry.town.n result }
 {
-    let size = (m + 1) * n;
     let mut table = [0u16; counting::ENTRIES];
-    tables::by_site::fill_values(n, m, scores, rows, &mut table[..size]);
-    let even = survey::weights::even(weights);
-    free_rounds::rounds(&table[..size], weights, even, n, m, sites, k)
+    let values = &mut table[..(town.town.m + 1) * town.town.n];
+    tables::by_site::fill_values(town, values);
+    let town = town.town;
+    let even = weights::even(town.weights);
+    free_rounds::rounds(values, town.weights, even, town.n, town.m, sites, k)
 }
 
 // The total of a state's sites: each street's best score, by its weight.
-fn total_of(state: State, weights: &[u8], n: usize) -> u32
-    requires bests_len { (length state.bests ≡ most_streets) × (n ≤ most_streets) × Scores (take n state.bests) }
-    requires weighed { Weighed n weights.now false }
-    ensures { result ≡ sum_of n (λ s. at weights.now s * at (take n state.bests) s) }
+fn total_of(town: AcceptedTown<'_>, state: &State) -> u32
+    requires { Held (score (lent town.town)) town.town.n state.now }
+    ensures { result ≡ list_total (lent town.entry.town) (sites_of state.now) }
 {
-    let bests = state.bests;
-    free_rounds::sums::sum(&bests[..n], weights, false)
+    let town = town.town;
+    sums::sum(&state.bests[..town.n], town.weights, false)
 }
 
 // The total of a list of sites.
-pub fn list_total(
-    n: usize,
-    m: usize,
-    scores: &[u16],
-    weights: &[u8],
-    rows: &[u8],
-    sites: &[u8],
-) -> u32
-    requires { Accepted (town_of n m scores.now weights.now rows.now) × (length sites.now ≤ m) × ((i : ℕ) → at sites.now i ≤ m) }
-    ensures { result ≡ list_total (town_of n m scores.now weights.now rows.now) sites.now }
+pub fn list_total(town: AcceptedTown<'_>, sites: &[u8]) -> u32
+    requires { (length sites.now ≤ town.town.m) × ((i : ℕ) → at sites.now i ≤ town.town.m) }
+    ensures { result ≡ list_total (lent town.entry.town) sites.now }
 {
-    total_of(planned(n, m, scores, weights, rows, sites, 0), weights, n)
+    let state = planned(town, sites, 0);
+    total_of(town, &state)
 }
 
 // The free division over a list of sites, and its total.
-pub fn divide(
-    n: usize,
-    m: usize,
-    scores: &[u16],
-    weights: &[u8],
-    rows: &[u8],
-    sites: &[u8],
-    division: &mut [u8],
-) -> u32
-    requires accepted { Accepted (town_of n m scores.now weights.now rows.now) × (length sites.now ≤ m) × ((i : ℕ) → at sites.now i ≤ m) }
-    requires division_len { length division.old ≡ n }
-    ensures total { result ≡ list_total (town_of n m scores.now weights.now rows.now) sites.now }
-    ensures division { division.new ≡ free_division (town_of n m scores.now weights.now rows.now) sites.now }
+pub fn divide(town: AcceptedTown<'_>, sites: &[u8], division: &mut [u8]) -> u32
+    requires sites { (length sites.now ≤ town.town.m) × ((i : ℕ) → at sites.now i ≤ town.town.m) }
+    requires division_len { length division.old ≡ town.town.n }
+    ensures total { result ≡ list_total (lent town.entry.town) sites.now }
+    ensures division { division.new ≡ free_division (lent town.entry.town) sites.now }
 {
-    let state = planned(n, m, scores, weights, rows, sites, 0);
-    let flags = state.flags;
-    serve::serve(rows, m, &flags, division);
-    total_of(state, weights, n)
+    let state = planned(town, sites, 0);
+    serve::serve(town, &state.flags, division);
+    total_of(town, &state)
 }
 
 // The free plan: its sites, its division, and its total.
-pub fn plan(
-    n: usize,
-    m: usize,
-    scores: &[u16],
-    weights: &[u8],
-    rows: &[u8],
-    division: &mut [u8],
-    chosen: &mut [u8],
-) -> u32
-    requires accepted { Accepted (town_of n m scores.now weights.now rows.now) × (length chosen.old ≤ m) }
-    requires division_len { length division.old ≡ n }
-    ensures total { result ≡ list_total (town_of n m scores.now weights.now rows.now) (free_sites (town_of n m scores.now weights.now rows.now) (length chosen.old)) }
-    ensures division { division.new ≡ free_division (town_of n m scores.now weights.now rows.now) (free_sites (town_of n m scores.now weights.now rows.now) (length chosen.old)) }
-    ensures chosen { chosen.new ≡ free_sites (town_of n m scores.now weights.now rows.now) (length chosen.old) }
+pub fn plan(town: AcceptedTown<'_>, division: &mut [u8], chosen: &mut [u8]) -> u32
+    requires chosen_len { length chosen.old ≤ town.town.m }
+    requires division_len { length division.old ≡ town.town.n }
+    ensures total { result ≡ list_total (lent town.entry.town) (free_sites (lent town.entry.town) (length chosen.old)) }
+    ensures division { division.new ≡ free_division (lent town.entry.town) (free_sites (lent town.entry.town) (length chosen.old)) }
+    ensures chosen { chosen.new ≡ free_sites (lent town.entry.town) (length chosen.old) }
 {
-    let k = chosen.len();
-    let none = [0u8; 1];
-    let state = planned(n, m, scores, weights, rows, &none[..0], k);
-    let flags = state.flags;
-    let sites = state.chosen;
-    serve::serve(rows, m, &flags, division);
-    buffers::copy_bytes(&sites[..k], chosen);
-    total_of(state, weights, n)
+    let state = planned(town, &[], chosen.len());
+    serve::serve(town, &state.flags, division);
+    chosen.copy_from_slice(state.sites());
+    total_of(town, &state)
 }

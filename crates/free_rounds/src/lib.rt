@@ -38,6 +38,14 @@ impl State {
         }
     }
 
+    // The sites chosen so far, in order of choice.
+    pub fn sites(&self) -> &[u8]
+        requires { self.now.count ≤ length self.now.chosen }
+        ensures { result.now ≡ sites_of self.now }
+    {
+        &self.chosen[..self.count]
+    }
+
     // The state with one site more. Its bounds stay bounds whatever counts for a street, since no rise grows.
     pub fn taking(mut self, values: &[u16], n: usize, m: usize, site: u8) -> Self
         requires site_table { SiteTable n m values.now × Held (site_value values.now n) n self }

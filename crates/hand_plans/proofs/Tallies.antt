@@ -10,13 +10,11 @@ use native.Mathlib.Numerals.{add-one}
 use native.Mathlib.Omega.{arith}
 use lib.Dec.{ltb, eqb}
 use lib.ListN.{length, take}
-use lib.Seq.{take_all}
 use borrow.Author.Tests.{lt-ltb, le-ltb, eq-eqb, ne_eqb}
 use Rattle.counting.specs.Words.{◌when◌, ◌unless◌, one, count_of}
 use Rattle.counting.specs.Lists.{at, count}
-use Rattle.counting.proofs.Membership.{one-not}
 use Rattle.counting.proofs.Listed.{count_most}
-use Rattle.counting.proofs.Sums.{sum_of-same, sum_of-next}
+use Rattle.counting.proofs.Sums.{sum_of-same}
 use Rattle.division.specs.Shares.{division_total}
 use Rattle.division.proofs.Counts.{by_order, division_total-suc}
 use Rattle.loads.specs.Sums.{Summed}
@@ -24,29 +22,7 @@ use Rattle.loads.proofs.SiteSums.{streets-sum}
 use Rattle.refusals.specs.Refusals.{sites_with}
 use Rattle.hand_plans.specs.Counts.{between}
 
--- ---- a number within two bounds
--- it is below the one, or above the other, or neither
-pub within-not-low : (x least most : ℕ) → x < least → 0 ≡ one (between least most x)
-within-not-low x least most l = rw (lt-ltb x least l) refl
-
-pub within-not-high : (x least most : ℕ) → least ≤ x → most < x → 0 ≡ one (between least most x)
-within-not-high x least most l h = rw (le-ltb x least l, lt-ltb most x h) refl
-
-pub within_both : (x least most : ℕ) → least ≤ x → x ≤ most → 1 ≡ one (between least most x)
-within_both x least most l h = rw (le-ltb x least l, le-ltb most x h) refl
-
--- a site counts once at most
-pub one-most : (test : ℕ → Bool) (x streets : ℕ) → x ≡ one (test streets) → x ≤ 1
-one-most test x streets e = omega (arith, one-not (test streets))
-
 -- ---- the table
--- one site more is looked at
-pub sites-more : (test : ℕ → Bool) (counts : List ℕ) (a sites x : ℕ) → sites ≡ count_of a (λ i. test (at counts (suc i))) → sites ≤ a
-    → x ≡ one (test (at counts (a + 1))) → (sites + x ≡ count_of (a + 1) (λ i. test (at counts (suc i)))) × (sites + x ≤ a + 1)
-sites-more test counts a sites x e l q =
-    let q' : x ≡ one (test (at counts (suc a))) = rw add-one at q in
-    (omega (arith, sum_of-next a (λ i. one (test (at counts (suc i))))), omega (arith, one-not (test (at counts (suc a)))))
-
 -- what the table says of the sites is said of the division
 sites-counted : (counts division : List ℕ) (m : ℕ) (test : ℕ → Bool) → m ≤ 64 → Summed (λ s. 1) counts division
     → count_of m (λ i. test (at counts (suc i))) ≡ sites_with test m division
@@ -106,7 +82,3 @@ module _ (v : ℕ → ℕ → ℕ) (division : List ℕ) where
   pub total-more : (s total x : ℕ) → s < length division → total ≡ division_total v (take s division) → x ≡ v s (at division s)
       → total + x ≡ division_total v (take (s + 1) division)
   total-more s total x l e q = rw add-one (omega (arith, division_total-suc v division s l))
-
-  -- every street is added
-  pub total-all : (s total : ℕ) → length division ≤ s → total ≡ division_total v (take s division) → total ≡ division_total v division
-  total-all s total l e = rw (take_all s division l) at e

@@ -4,6 +4,8 @@ use mathlib.Core.Path.{◌≡◌, ◌∙◌}
 use mathlib.Core.Bool.{true, false≢true}
 use mathlib.Core.List.{List}
 use Prim.Native.Nat.{ℕ}
+use Rattle.std.specs.Prelude.{Result, Ok, Err}
+use Rattle.std.specs.Result.{IsErrAnd}
 use Rattle.counting.specs.Buffers.{after}
 use Rattle.survey.specs.Town.{Town}
 use Rattle.plans.specs.Best.{BestDivision}
@@ -13,12 +15,11 @@ use Rattle.plans.specs.Plans.{list_total, free_division, plan_total, balanced_di
 use Rattle.balanced_results.specs.Shareable.{Shareable}
 use Rattle.balanced_results.proofs.BestDivisions.{best-division}
 use Rattle.refusals.specs.Inputs.{ListInput, DivisionInput}
-use Rattle.refusals.specs.Refusals.{Tried, listed_refusal, list_total_refusal, free_division_refusal, balanced_division_refusal}
+use Rattle.refusals.specs.Refusals.{listed_refusal, list_total_refusal, free_division_refusal, balanced_division_refusal}
 use Rattle.refusals.proofs.Listed.{list-sites, list-apart, listed, balanced-division-listed}
-use Rattle.call_answers.specs.declared.Answer.{Answer}
-use Rattle.call_answers.specs.declared.Answer.TheVariants as answer
-use Rattle.call_answers.specs.Answers.{Told, accepts, total}
-use Rattle.call_answers.proofs.Answers.{told-refused, told-total, told_same, after_same, kept-refused, new-accepted}
+use Rattle.call_answers.specs.declared.Refusal.{Refusal}
+use Rattle.call_answers.specs.Answers.{Tried, Told, number_of, accepts, total}
+use Rattle.call_answers.proofs.Answers.{told-error, told-total, told_same, after_same, kept-refused, new-accepted}
 use Rattle.list_calls.specs.Calls.{ListTotalled, FreeDivided, BalancedDivided}
 
 -- the total of a list that is not refused, with every weight 1
@@ -26,23 +27,23 @@ list-plain : (t : Town) (sites : List ℕ) (own : ℕ) → Ones t → listed_ref
 list-plain t sites own ones z = total-plain t ones sites (λ a h. (list-sites t.m sites (listed t sites own z).list a h).1)
 
 -- ---- the total
-pub list-totalled : (i : ListInput) (r : Answer) → Told r (list_total_refusal i) (list_total i.town i.sites) → ListTotalled i r
+pub list-totalled : (i : ListInput) (r : Result ℕ Refusal) → Told r (list_total_refusal i) (list_total i.town i.sites) → ListTotalled i r
 list-totalled i r told = record { answer = told; plain = λ ones. told_same (λ z. list-plain i.town i.sites _ ones z) told }
 
 -- ---- the free division
 module _ {i : DivisionInput} where
-  free-divided : {division : List ℕ} {r : Answer} → Told r (free_division_refusal i) (list_total i.town i.sites)
+  free-divided : {division : List ℕ} {r : Result ℕ Refusal} → Told r (free_division_refusal i) (list_total i.town i.sites)
       → division ≡ after (free_division_refusal i) (free_division i.town i.sites) i.division → FreeDivided i division r
   free-divided told d =
       record { answer = told; streets = d; plain = λ ones. told_same (λ z. list-plain i.town i.sites _ ones z) told }
 
-module _ {i : DivisionInput} {x : ℕ} (tried : Tried free_division_refusal i x) where
-  pub free-division-refused : (x ≡ 0 → ⊥) → FreeDivided i i.division (answer.Refused x)
-  free-division-refused h = free-divided (told-refused tried h) (kept-refused tried h _ _)
+  pub free-division-refused : (e : Refusal) → Tried free_division_refusal i (number_of e) → (r : Result ℕ Refusal) → IsErrAnd r (λ y. y ≡ e)
+      → FreeDivided i i.division r
+  free-division-refused e tried r h = free-divided (told-error e tried r h) (kept-refused e tried _ _)
 
-  pub free-division-given : x ≡ 0 → {division : List ℕ} {t : ℕ} → t ≡ list_total i.town i.sites → division ≡ free_division i.town i.sites
-      → FreeDivided i division (answer.Total t)
-  free-division-given z total d = free-divided (told-total tried z total) (new-accepted tried z _ _ d)
+  pub free-division-given : Tried free_division_refusal i 0 → {division : List ℕ} {t : ℕ} → t ≡ list_total i.town i.sites
+      → division ≡ free_division i.town i.sites → FreeDivided i division (Ok t)
+  free-division-given tried total d = free-divided (told-total tried total) (new-accepted tried _ _ d)
 
 -- ---- the balanced division
 module _ (i : DivisionInput) where
@@ -54,7 +55,7 @@ module _ (i : DivisionInput) where
       let l = listed i.town i.sites _ z in
       division-plain i.town ones i.sites l.called.some (list-sites _ i.sites l.list) (list-apart _ i.sites l.list)
 
-  balanced-divided : {division : List ℕ} {r : Answer}
+  balanced-divided : {division : List ℕ} {r : Result ℕ Refusal}
       → Told r (balanced_division_refusal i) (plan_total i.town (balanced_division i.town i.sites))
       → division ≡ after (balanced_division_refusal i) (balanced_division i.town i.sites) i.division
       → (accepts r ≡ true → BestDivision i.town i.sites division (total r)) → BalancedDivided i division r
@@ -69,15 +70,20 @@ module _ (i : DivisionInput) where
         best = best;
       }
 
-module _ {i : DivisionInput} {x : ℕ} (tried : Tried balanced_division_refusal i x) where
-  pub balanced-division-refused : (x ≡ 0 → ⊥) → BalancedDivided i i.division (answer.Refused x)
-  balanced-division-refused h = balanced-divided i (told-refused tried h) (kept-refused tried h _ _) (λ y. absurd (false≢true y))
+module _ {i : DivisionInput} where
+  pub balanced-division-refused : (e : Refusal) → Tried balanced_division_refusal i (number_of e) → (r : Result ℕ Refusal) → IsErrAnd r (λ y. y ≡ e)
+      → BalancedDivided i i.division r
+  balanced-division-refused e tried r h = balanced-divided i (told-error e tried r h) (kept-refused e tried _ _) (none r h)
+    where
+      none : (r : Result ℕ Refusal) → IsErrAnd r (λ y. y ≡ e) → accepts r ≡ true → BestDivision i.town i.sites i.division (total r)
+      none (Ok t) h y = absurd h
+      none (Err f) h y = absurd (false≢true y)
 
-  module _ (z : x ≡ 0) where
+  module _ (tried : Tried balanced_division_refusal i 0) where
     -- a list that is not refused can be shared
     pub shareable : Shareable i.town.m i.sites
     shareable =
-        let l = balanced-division-listed tried z in
+        let l = balanced-division-listed tried in
         record {
           some = l.called.some;
           few = l.called.few;
@@ -86,7 +92,7 @@ module _ {i : DivisionInput} {x : ℕ} (tried : Tried balanced_division_refusal 
         }
 
     pub balanced-division-given : {division : List ℕ} {r : ℕ} → r ≡ plan_total i.town (balanced_division i.town i.sites)
-        → division ≡ balanced_division i.town i.sites → BalancedDivided i division (answer.Total r)
+        → division ≡ balanced_division i.town i.sites → BalancedDivided i division (Ok r)
     balanced-division-given total d =
-        balanced-divided i (told-total tried z total) (new-accepted tried z _ _ d)
+        balanced-divided i (told-total tried total) (new-accepted tried _ _ d)
         (λ y. rw (d, total) (best-division i.town i.sites shareable))

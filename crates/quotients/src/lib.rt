@@ -10,18 +10,26 @@ use counting::SITES;
 
 mod table;
 
-// The whole table. It is written anew on each call, so a caller asks for it once and reads it by `at`.
-pub fn all() -> [[u8; SITES]; SITES]
-    ensures { is_table result ≡ true }
-{
-    table::QUOTIENTS
+// The quotients of the numbers from 1 to 64.
+#[derive(Drop)]
+pub struct Quotients {
+    rows: [[u8; SITES]; SITES],
+    ghost right: { is_table rows ≡ true },
 }
 
-// What stands in a row and a column, both numbered from 1.
-pub fn at(table: &[[u8; SITES]; SITES], row: usize, column: usize) -> u8
-    requires table_value { is_table table.now ≡ true }
-    requires le_row { (1 ≤ row) × (row ≤ most_sites) × (1 ≤ column) × (column ≤ most_sites) }
-    ensures { result ≡ ceil row column }
-{
-    table[row - 1][column - 1]
+impl Quotients {
+    // The whole table. It is written anew on each call, so a caller asks for it once and reads it by `at`.
+    pub fn all() -> Self {
+        Self {
+            rows: table::QUOTIENTS,
+        }
+    }
+
+    // What stands in a row and a column, both numbered from 1.
+    pub fn at(&self, row: usize, column: usize) -> u8
+        requires { (1 ≤ row) × (row ≤ most_sites) × (1 ≤ column) × (column ≤ most_sites) }
+        ensures { result ≡ ceil row column }
+    {
+        self.rows[row - 1][column - 1]
+    }
 }

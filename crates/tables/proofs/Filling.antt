@@ -14,17 +14,13 @@ use Rattle.counting.specs.Bounds.{most_streets, most_sites, most_entries}
 use Rattle.counting.specs.Lists.{at, has}
 use Rattle.counting.proofs.Sums.{take_next}
 use Rattle.counting.proofs.Tables.{row_within, in_rows, rows_apart}
-use Rattle.counting.proofs.Parts.{part, part_length}
+use Rattle.counting.proofs.Parts.{part_length}
 use Rattle.survey.specs.Town.{Town}
-use Rattle.survey.specs.Rows.{row_at, ranked_part, place_in, place_of}
+use Rattle.survey.specs.Rows.{row_at, row_of, ranked_part, place_in, place_of}
 use Rattle.survey.specs.Accepted.{SoundRow, Accepted}
 use Rattle.survey.proofs.RowLoops.{ranked-stop, ranked-more, ranked-all, row-part}
 use Rattle.survey.proofs.Places.{place_none, place-new, place-old}
-use Rattle.tables.specs.Entries.{Ranked, by_site, by_street, Layout, Room, Unread, Entered}
-
--- an accepted survey's rows rank the sites
-pub ranked : {t : Town} → Accepted t → Ranked t.n t.m t.rows
-ranked ok = record { few-streets = ok.few-streets; few-sites = ok.few-sites; rows_fit = ok.rows_fit; sound-rows = ok.sound-rows }
+use Rattle.tables.specs.Entries.{by_site, by_street, Layout, Room, Unread, Entered}
 
 -- ---- the two layouts
 -- a table with an entry for each street and each of the sites 0, 1, .., m is not long
@@ -76,8 +72,8 @@ module _ {f own : ℕ → ℕ} {row before table : List ℕ} {j : ℕ} (ok : Sou
       (λ d. get_or-set_other table (own b) (own a) x 0 (room.apart a b u low d) ∙ h a u ∙ ap f (sym (place-old list b a d)))
 
   -- one byte more, which is a site
-  pub passed-more : (x : ℕ) → x ≡ f (j + 1) → j < length row → (at row j ≡ 0 → ⊥) → Passed f own row before (set table (own (at row j)) x) (j + 1)
-  passed-more x e l z =
+  one : (x : ℕ) → x ≡ f (j + 1) → j < length row → (at row j ≡ 0 → ⊥) → Passed f own row before (set table (own (at row j)) x) (j + 1)
+  one x e l z =
       let b : ℕ = at row j in
       let low : b ≤ length row = ok.named j l in
       let new : has b (take j row) ≡ false = ok.once j l (omega arith) in
@@ -88,6 +84,9 @@ module _ {f own : ℕ → ℕ} {row before table : List ℕ} {j : ℕ} (ok : Sou
         right = rw (take_next row j l) (right-more (take j row) b x low (rw count e) new (passed-room l).0 p.right);
         others = λ i d. get_or-set_other table (own b) i x 0 (d b low) ∙ p.others i d;
       }
+
+  pub passed-more : {b x : ℕ} → b ≡ at row j → x ≡ f (j + 1) → j < length row → (at row j ≡ 0 → ⊥) → Passed f own row before (set table (own b) x) (j + 1)
+  passed-more {b} {x} q e l z = rw q (one x e l z)
 
   -- a zero: the passed bytes are the ranked part
   pub passed-stop : j < length row → at row j ≡ 0 → Entered f own row before table
@@ -124,48 +123,57 @@ pub filled-all : {f : ℕ → ℕ → ℕ} {index : ℕ → ℕ → ℕ} {n m : 
     → (a t : ℕ) → a ≤ m → t < n → at table (index a t) ≡ f t (place_of (row_at m rows t) a)
 filled-all h p a t l u = p.done a t l (omega arith) u
 
-module _ {n m : ℕ} {rows : List ℕ} {s : ℕ} (ok : Ranked n m rows) (l : s < n) where
+module _ {t : Town} {s : ℕ} (ok : Accepted t) (l : s < t.n) where
   -- the row of the street ends within the rows
-  pub row_ends : s * m + m ≤ length rows
-  row_ends = omega (arith, row_within n m s l, ok.rows_fit)
+  pub row_ends : s * t.m + t.m ≤ length t.rows
+  row_ends = omega (arith, row_within t.n t.m s l, ok.rows_fit)
 
-  -- as it is lent, it has m bytes
-  pub row-length : length (part (s * m) (s * m + m) rows) ≡ m
-  row-length = omega (arith, part_length (s * m) (s * m + m) rows row_ends)
+  -- it has m bytes
+  pub row-length : length (row_of t s) ≡ t.m
+  row-length = rw (← row-part t.m t.rows s) (omega (arith, part_length (s * t.m) (s * t.m + t.m) t.rows row_ends))
 
-  -- it is sound
-  pub street-sound : SoundRow (length (part (s * m) (s * m + m) rows)) (part (s * m) (s * m + m) rows)
-  street-sound = rw (row-length, row-part m rows s) (ok.sound-rows s l)
+  -- the row as it is lent
+  module _ {row : List ℕ} (e : row ≡ row_of t s) where
+    row_size : length row ≡ t.m
+    row_size = ap length e ∙ row-length
 
-  module _ {f : ℕ → ℕ → ℕ} {index : ℕ → ℕ → ℕ} {table : List ℕ} (p : Filled f index n m rows table s) where
-    -- the table has room for the street
-    pub street-room : Room (λ a. index a s) (length (part (s * m) (s * m + m) rows)) table
-    street-room =
-        rw row-length
-        (record {
-          within = λ a u. p.layout.within a s u l;
-          apart = λ a b u v. p.layout.sites-apart a b s u v l;
-          few-sites = ok.few-sites;
-          size = p.size;
-        })
+    -- it is sound
+    pub street-sound : SoundRow (length row) row
+    street-sound = rw (row_size, e) (ok.sound-rows s l)
 
-    -- the street's row is not read yet
-    pub street-unread : Unread (f s) (λ a. index a s) (length (part (s * m) (s * m + m) rows)) table
-    street-unread = rw row-length (p.rest s (omega arith) l)
+    -- and has a score for each byte
+    pub street-scored : length t.scores ≡ length row
+    street-scored = omega (arith, row_size, ok.scores-fit)
 
-    -- with its entries the table is filled by one street more
-    pub filled_more : (after : List ℕ) → length after ≡ length table → Entered (f s) (λ a. index a s) (part (s * m) (s * m + m) rows) table after
-        → Filled f index n m rows after (s + 1)
-    filled_more after e k =
-        record {
-          layout = rw e p.layout;
-          size = omega (arith, p.size);
-          done = λ a t u v w. by_cases (ℕ_discrete t s) (λ q. rw q (own a u)) (λ d. other a t u w d ∙ p.done a t u (omega arith) w);
-          rest = λ t v w a u. other a t u w (λ q. omega arith) ∙ p.rest t (omega arith) w a u;
-        }
-      where
-        own : (a : ℕ) → a ≤ m → at after (index a s) ≡ f s (place_of (row_at m rows s) a)
-        own a u = k.right a (omega (arith, row-length)) ∙ ap (λ (row : List ℕ). f s (place_of row a)) (row-part m rows s)
+    module _ {f : ℕ → ℕ → ℕ} {index : ℕ → ℕ → ℕ} {table : List ℕ} (p : Filled f index t.n t.m t.rows table s) where
+      -- the table has room for the street
+      pub street-room : Room (λ a. index a s) (length row) table
+      street-room =
+          rw row_size
+          (record {
+            within = λ a u. p.layout.within a s u l;
+            apart = λ a b u v. p.layout.sites-apart a b s u v l;
+            few-sites = ok.few-sites;
+            size = p.size;
+          })
 
-        other : (a t : ℕ) → a ≤ m → t < n → t ≢ s → at after (index a t) ≡ at table (index a t)
-        other a t u w d = k.others (index a t) (λ b v. p.layout.streets-apart a b t s u (omega (arith, row-length)) w l d)
+      -- the street's row is not read yet
+      pub street-unread : Unread (f s) (λ a. index a s) (length row) table
+      street-unread = rw row_size (p.rest s (omega arith) l)
+
+      -- with its entries the table is filled by one street more
+      pub filled_more : (after : List ℕ) → length after ≡ length table → Entered (f s) (λ a. index a s) row table after
+          → Filled f index t.n t.m t.rows after (s + 1)
+      filled_more after q k =
+          record {
+            layout = rw q p.layout;
+            size = omega (arith, p.size);
+            done = λ a u v w x. by_cases (ℕ_discrete u s) (λ q. rw q (own a v)) (λ d. other a u v x d ∙ p.done a u v (omega arith) x);
+            rest = λ u v w a x. other a u x w (λ q. omega arith) ∙ p.rest u (omega arith) w a x;
+          }
+        where
+          own : (a : ℕ) → a ≤ t.m → at after (index a s) ≡ f s (place_of (row_of t s) a)
+          own a u = k.right a (omega (arith, row_size)) ∙ ap (λ (row : List ℕ). f s (place_of row a)) e
+
+          other : (a u : ℕ) → a ≤ t.m → u < t.n → u ≢ s → at after (index a u) ≡ at table (index a u)
+          other a u v w d = k.others (index a u) (λ b x. p.layout.streets-apart a b u s v (omega (arith, row_size)) w l d)

@@ -1,7 +1,7 @@
--- Laws of a table of values between the survey and an engine: a part of an array that is filled and then lent.
+-- Laws of a table of values between the survey and an engine: a part of an array is filled, and is then lent.
 -- Assumes nothing.
 use mathlib.Core.Path.{◌≡◌, sym, ap, ◌∙◌}
-use mathlib.Core.List.{List, ◌++◌}
+use mathlib.Core.List.{List}
 use Prim.Native.Nat.{ℕ, ◌+◌, ◌*◌, ◌/◌, ◌%◌, ◌≤◌, ◌<◌}
 use native.Mathlib.Nat.{div-add-mod', mod-lt, div-lt_iff_lt-mul, mul-zero}
 use native.Mathlib.Omega.{arith}
@@ -9,9 +9,8 @@ use native.Mathlib.Decide.{dec_lt}
 use lib.ListN.{length, take, replicate}
 use Rattle.counting.specs.Bounds.{most_streets, most_sites, top_score, most_entries, most_value}
 use Rattle.counting.specs.Lists.{at, cell}
-use Rattle.counting.proofs.Equations.{along}
 use Rattle.counting.proofs.Sums.{at-past}
-use Rattle.counting.proofs.Parts.{front_length, front-blank, back_is, back-room, back-size}
+use Rattle.counting.proofs.Parts.{front_length, front-blank}
 use Rattle.survey.specs.Town.{Town}
 use Rattle.survey.specs.Rows.{score_at, score, value}
 use Rattle.survey.specs.Accepted.{Accepted}
@@ -20,26 +19,13 @@ use Rattle.tables.specs.Entries.{Layout}
 use Rattle.tables.specs.Tables.{Blank, Tabled, ValueTable, StreetTable, SiteTable, value_in, site_value}
 use Rattle.tables.proofs.Filling.{table-small, Filled, filled_none}
 
--- ---- any table, as a part of an array
+-- ---- any table
 module _ {height width most : ℕ} (fits : height * width ≤ most) where
-  -- before it is filled
+  -- as a part of an array, before it is filled
   pub part-blank : Blank height width (take (height * width) (replicate most 0))
   part-blank = record { size = front_length (height * width) most fits; none = front-blank (height * width) most fits }
 
-module _ {f : ℕ → ℕ → ℕ} {height width : ℕ} {table : List ℕ} (rest : List ℕ) (h : Tabled f height width table) where
-  part-is : take (height * width) (table ++ rest) ≡ table
-  part-is = back_is (height * width) table rest h.size
-
-  pub part_room : height * width ≤ length (table ++ rest)
-  part_room = back-room (height * width) table rest h.size
-
-  pub part-size : height * width ≡ length (take (height * width) (table ++ rest))
-  part-size = sym (back-size (height * width) table rest h.size)
-
-  -- it holds what it was filled with
-  pub part_same : (r c : ℕ) → r < height → c < width → cell (take (height * width) (table ++ rest)) width r c ≡ f r c
-  part_same r c l u = ap (λ (t : List ℕ). cell t width r c) part-is ∙ h.right r c l u
-
+module _ {f : ℕ → ℕ → ℕ} {height width : ℕ} {table : List ℕ} (h : Tabled f height width table) where
   -- each entry is that of some row and column
   small : (most : ℕ) → 0 < width → ((r c : ℕ) → f r c ≤ most) → (i : ℕ) → Dec (i < height * width) → at table i ≤ most
   small most some low i (yes l) =
@@ -52,11 +38,9 @@ module _ {f : ℕ → ℕ → ℕ} {height width : ℕ} {table : List ℕ} (rest
   small most some low i (no l) = omega (arith, at-past table i (omega (arith, h.size)))
 
   -- so an engine may use it
-  pub part-ready : (most n m : ℕ) → n ≤ most_streets → m ≤ most_sites → 0 < width → ((r c : ℕ) → f r c ≤ most)
-      → ValueTable most n m height width (take (height * width) (table ++ rest))
-  part-ready most n m few few-sites some low =
-      rw part-is
-      (record { few-streets = few; few-sites = few-sites; size = h.size; small = λ i. small most some low i (dec_lt i (height * width)) })
+  pub table-ready : (most n m : ℕ) → n ≤ most_streets → m ≤ most_sites → 0 < width → ((r c : ℕ) → f r c ≤ most) → ValueTable most n m height width table
+  table-ready most n m few few-sites some low =
+      record { few-streets = few; few-sites = few-sites; size = h.size; small = λ i. small most some low i (dec_lt i (height * width)) }
 
 -- ---- the values of a town
 -- a blank table holds the entries of no street, where no place has the entry 0
@@ -73,27 +57,21 @@ module _ {t : Town} (ok : Accepted t) where
   pub street-fits : t.n * (t.m + 1) ≤ most_entries
   street-fits = omega (arith, table-small t.n t.m ok.few-streets ok.few-sites)
 
-  -- for a buffer of n streets
-  pub street-ready : {table : List ℕ} (rest : List ℕ) → Tabled (value t) t.n (t.m + 1) table
-      → (j : ℕ) → j ≡ t.n → StreetTable j t.m (take (t.n * (t.m + 1)) (table ++ rest))
-  street-ready {table} rest h j e =
-      along (λ (n : ℕ). StreetTable n t.m (take (t.n * (t.m + 1)) (table ++ rest))) e
-      (part-ready rest h most_value t.n t.m ok.few-streets ok.few-sites (omega arith) (λ s a. omega (arith, valued-bound ok s a)))
+  pub street-ready : {table : List ℕ} → Tabled (value t) t.n (t.m + 1) table → StreetTable t.n t.m table
+  street-ready h =
+      table-ready h most_value t.n t.m ok.few-streets ok.few-sites (omega arith) (λ s a. omega (arith, valued-bound ok s a))
 
   -- and it holds the town's values
-  pub street-same : {table : List ℕ} (rest : List ℕ) → Tabled (value t) t.n (t.m + 1) table
-      → (s a : ℕ) → s < t.n → a ≤ t.m → value_in (take (t.n * (t.m + 1)) (table ++ rest)) t.m s a ≡ value t s a
-  street-same rest h s a l u = part_same rest h s a l (omega arith)
+  pub street-same : {table : List ℕ} → Tabled (value t) t.n (t.m + 1) table → (s a : ℕ) → s < t.n → a ≤ t.m → value_in table t.m s a ≡ value t s a
+  street-same h s a l u = h.right s a l (omega arith)
 
   -- the same by site, with scores
   pub site-fits : (t.m + 1) * t.n ≤ most_entries
   site-fits = table-small t.n t.m ok.few-streets ok.few-sites
 
-  pub site-ready : {table : List ℕ} (rest : List ℕ) → Tabled (λ a s. score t s a) (t.m + 1) t.n table
-      → SiteTable t.n t.m (take ((t.m + 1) * t.n) (table ++ rest))
-  site-ready rest h =
-      part-ready rest h top_score t.n t.m ok.few-streets ok.few-sites ok.some-street (λ a s. scored-bound ok s a)
+  pub site-ready : {table : List ℕ} → Tabled (λ a s. score t s a) (t.m + 1) t.n table → SiteTable t.n t.m table
+  site-ready h = table-ready h top_score t.n t.m ok.few-streets ok.few-sites ok.some-street (λ a s. scored-bound ok s a)
 
-  pub site-same : {table : List ℕ} (rest : List ℕ) → Tabled (λ a s. score t s a) (t.m + 1) t.n table
-      → (s a : ℕ) → s < t.n → a ≤ t.m → site_value (take ((t.m + 1) * t.n) (table ++ rest)) t.n s a ≡ score t s a
-  site-same rest h s a l u = part_same rest h a s (omega arith) l
+  pub site-same : {table : List ℕ} → Tabled (λ a s. score t s a) (t.m + 1) t.n table
+      → (s a : ℕ) → s < t.n → a ≤ t.m → site_value table t.n s a ≡ score t s a
+  site-same h s a l u = h.right a s (omega arith) l

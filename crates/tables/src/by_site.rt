@@ -1,10 +1,13 @@
 // The table of a survey's scores by site, filled once from scores and rows: a row of n scores for each of the sites 0, 1, .., m.
 // It is for an engine that sums over the streets what they give a site, each by its weight: a site's scores stand side by side.
 ghost use Rattle.std.specs.Prelude.{◌≡◌, ◌+◌, length};
-ghost use Rattle.survey.specs.Rows.{row_at, score_at, score_of};
+ghost use Rattle.survey.specs.Town.{lent};
+ghost use Rattle.survey.specs.Rows.{score_at, score};
 ghost use Rattle.survey.specs.Accepted.{SoundRow};
-ghost use Rattle.tables.specs.Entries.{Ranked, by_site, Room, Unread, Entered};
+ghost use Rattle.tables.specs.Entries.{by_site, Room, Unread, Entered};
 ghost use Rattle.tables.specs.Tables.{Blank, Tabled};
+
+use survey::accepted::AcceptedTown;
 
 // The street s gets the score at the place of each site that it ranked. Any other site keeps its 0, so the row is read once.
 fn fill_street(n: usize, s: usize, scores: &[u16], row: &[u8], values: &mut [u16])
@@ -13,24 +16,21 @@ fn fill_street(n: usize, s: usize, scores: &[u16], row: &[u8], values: &mut [u16
     requires blank { Unread (score_at scores.now) (λ a. by_site n a s) (length row.now) values.old }
     ensures { Entered (score_at scores.now) (λ a. by_site n a s) row.now values.old values.new }
 {
-    for j in 0..row.len() {
-        let b = row[j];
-        if b == 0 {
+    for (j, site) in row.iter().enumerate() {
+        if *site == 0 {
             return;
         }
-        values[b as usize * n + s] = scores[j];
+        values[usize::from(*site) * n + s] = scores[j];
     }
 }
 
-// The whole table: each street's row of m bytes fills the street's column.
-pub fn fill_values(n: usize, m: usize, scores: &[u16], rows: &[u8], values: &mut [u16])
-    requires ranked { Ranked n m rows.now × (length scores.now ≡ m) }
-    requires blank { Blank (m + 1) n values.old }
-    ensures { Tabled (λ a s. score_of scores.now (row_at m rows.now s) a) (m + 1) n values.new }
+// The whole table: each street's row fills the street's column.
+pub fn fill_values(town: AcceptedTown<'_>, values: &mut [u16])
+    requires { Blank (town.town.m + 1) town.town.n values.old }
+    ensures { Tabled (λ a s. score (lent town.entry.town) s a) (town.entry.town.m + 1) town.entry.town.n values.new }
 {
-    for s in 0..n {
-        let low = s * m;
-        let high = low + m;
-        fill_street(n, s, scores, &rows[low..high], values);
+    let town = town.town;
+    for s in 0..town.n {
+        fill_street(town.n, s, town.scores, town.row(s), values);
     }
 }

@@ -1,28 +1,23 @@
 // The table of keys by which a balanced round orders the streets for a site, filled once from the rows of a survey.
 // It is by site: a row of n keys for each of the sites 0, 1, .., m. They are keys by place, and where streets have household weights these are
 // weighed afterwards, from the table of values.
-ghost use Rattle.std.specs.Prelude.{true, ◌≡◌, ℕ, suc, ◌+◌, ◌-◌, ◌*◌, ◌≤◌, ◌<◌, length};
+ghost use Rattle.std.specs.Prelude.{◌≡◌, ℕ, suc, ◌+◌, ◌-◌, ◌*◌, ◌≤◌, ◌<◌, length};
 ghost use Rattle.counting.specs.Bounds.{most_sites, most_value};
 ghost use Rattle.counting.specs.Words.{◌or_else◌};
 ghost use Rattle.counting.specs.Lists.{at, cell};
 ghost use Rattle.counting.specs.Buffers.{Mapped};
+ghost use Rattle.survey.specs.Rows.{Even};
 ghost use Rattle.survey.specs.Accepted.{SoundRow};
-ghost use Rattle.tables.specs.Entries.{Ranked, by_site, Room, Unread, Entered};
+ghost use Rattle.tables.specs.Entries.{by_site, Room, Unread, Entered};
 ghost use Rattle.tables.specs.Tables.{StreetTable, value_in};
 ghost use Rattle.tables.specs.RoundKeys.{row_key, round_key};
 ghost use Rattle.balanced_plan.specs.Falling.{FallsBy, CompareAlike};
 
+use survey::accepted::AcceptedTown;
+use survey::weights;
+
 // No value is above it: a score of at most 1,000 times a weight of at most 99.
 const MOST_VALUE: u32 = 99000;
-
-// Before any row is read, every street comes last at every site.
-fn fill_last(keys: &mut [u32], last: u32)
-    ensures { Mapped (λ i x. last) keys.old keys.new (length keys.old) }
-{
-    for i in 0..keys.len() {
-        keys[i] = last;
-    }
-}
 
 // The street s gets its place as the key at each site of its row. A site that it has not ranked keeps the key, so the row is read once.
 fn fill_street(n: usize, s: usize, row: &[u8], keys: &mut [u32])
@@ -31,26 +26,25 @@ fn fill_street(n: usize, s: usize, row: &[u8], keys: &mut [u32])
     requires unread { Unread (λ p. p or_else suc (length row.now)) (λ a. by_site n a s) (length row.now) keys.old }
     ensures { Entered (λ p. p or_else suc (length row.now)) (λ a. by_site n a s) row.now keys.old keys.new }
 {
-    for j in 0..row.len() {
-        let b = row[j];
-        if b == 0 {
+    for (j, site) in row.iter().enumerate() {
+        if *site == 0 {
             return;
         }
-        keys[b as usize * n + s] = (j + 1) as u32;
+        keys[usize::from(*site) * n + s] = (j + 1) as u32;
     }
 }
 
-// The keys of all streets at every site: the place, and m + 1 where the street has not ranked the site.
-fn fill_keys(n: usize, m: usize, rows: &[u8], keys: &mut [u32])
-    requires ranked { Ranked n m rows.now }
-    requires keys_len { length keys.old ≡ (m + 1) * n }
-    ensures { (a s : ℕ) → a ≤ m → s < n → cell keys.new n a s ≡ row_key m rows.now a s }
+// The keys of all streets at every site: the place, and m + 1 where the street has not ranked the site. Before any row is read, every street comes
+// last at every site.
+fn fill_keys(town: AcceptedTown<'_>, keys: &mut [u32])
+    requires { length keys.old ≡ (town.town.m + 1) * town.town.n }
+    ensures { (a s : ℕ) → a ≤ town.entry.town.m → s < town.entry.town.n
+        → cell keys.new town.entry.town.n a s ≡ row_key town.entry.town.m town.entry.town.rows.now a s }
 {
-    fill_last(keys, (m + 1) as u32);
-    for s in 0..n {
-        let low = s * m;
-        let high = low + m;
-        fill_street(n, s, &rows[low..high], keys);
+    let town = town.town;
+    keys.fill(town.m as u32 + 1);
+    for s in 0..town.n {
+        fill_street(town.n, s, town.row(s), keys);
     }
 }
 
@@ -84,23 +78,18 @@ fn weigh_keys(values: &[u32], n: usize, m: usize, keys: &mut [u32])
 
 // The keys by which the rounds order the streets: by counted score and then by place. Where the values fall with the places, as they do if all streets
 // have the same weight, the keys by place give the same order, and they are small.
-pub fn fill_for_rounds(
-    values: &[u32],
-    even: bool,
-    n: usize,
-    m: usize,
-    rows: &[u8],
-    keys: &mut [u32],
-)
-    requires ranked { Ranked n m rows.now }
-    requires street_table { StreetTable n m values.now }
-    requires falls_by { even ≡ true → FallsBy (row_key m rows.now) (value_in values.now m) n m }
-    requires keys_len { length keys.old ≡ (m + 1) * n }
-    ensures { CompareAlike (cell keys.new n) (round_key (value_in values.now m) m rows.now) n m }
+pub fn fill_for_rounds(town: AcceptedTown<'_>, values: &[u32], keys: &mut [u32])
+    requires street_table { StreetTable town.town.n town.town.m values.now }
+    requires falls { Even town.town.weights.now
+        → FallsBy (row_key town.town.m town.town.rows.now) (value_in values.now town.town.m) town.town.n town.town.m }
+    requires keys_len { length keys.old ≡ (town.town.m + 1) * town.town.n }
+    ensures { CompareAlike (cell keys.new town.entry.town.n)
+        (round_key (value_in values.now town.entry.town.m) town.entry.town.m town.entry.town.rows.now)
+        town.entry.town.n town.entry.town.m }
 {
-    fill_keys(n, m, rows, keys);
-    if even {
-        return;
+    fill_keys(town, keys);
+    let town = town.town;
+    if !weights::even(town.weights) {
+        weigh_keys(values, town.n, town.m, keys);
     }
-    weigh_keys(values, n, m, keys);
 }

@@ -1,40 +1,33 @@
-use mathlib.Core.Path.{◌≡◌}
-use Prim.Native.Nat.{ℕ, ◌+◌}
+use mathlib.Core.Path.{sym, ◌∙◌}
 use native.Mathlib.Omega.{arith}
-use lib.ListN.{length, take, replicate}
-use Rattle.counting.proofs.Equations.{along}
+use Rattle.counting.specs.Bounds.{most_width}
 use Rattle.counting.proofs.Parts.{front_length, front-blank}
-use Rattle.tables.specs.Entries.{Ranked}
-use Rattle.tables.proofs.Filling.{ranked}
+use Rattle.survey.specs.Town.{lent}
 use Rattle.tables.proofs.Tabled.{part-blank, street-fits, street-ready, street-same}
-use Rattle.balanced_results.proofs.FallingLines.{table-falls}
-use Rattle.balanced_results.proofs.SurveyRounds.{best-surveyed}
+use Rattle.balanced_results.proofs.ListShares.{problem, as-surveyed}
+use Rattle.balanced_results.proofs.SurveyRounds.{chosen-shareable}
 use Rattle.balanced_results.proofs.best.Goals as goal
 
 pub fill_values-requires : goal.fill_values-requires
-fill_values-requires c = let p = c.requires in record { accepted = p.accepted.0; blank = part-blank (street-fits p.accepted.0) }
+fill_values-requires c = part-blank (street-fits c.args.town.accepted)
 
-pub divide_table-requires : goal.divide_table-requires
-divide_table-requires c =
-    let shares-size : length {A = ℕ} (take (c.args.m + 1) (replicate 65 0)) ≡ c.args.m + 1 = front_length (c.args.m + 1) 65 (omega (arith, c.requires.accepted.0.few-sites)) in
-    let a = c.args in
-    let p = c.requires in
-    let ok = p.accepted.0 in
-    let filled = c.fill_values.ensures in record {
-      ranked_table = (
-        street-ready ok _ filled _ p.division_len,
-        along (λ (j : ℕ). Ranked j a.m a.rows.now) p.division_len (ranked ok),
-        λ e. table-falls ok (c.even-even.ensures e) _ _ p.division_len (street-same ok _ filled),
-      );
-      listed = p.accepted.1;
-      shares_len = (shares-size, front-blank (a.m + 1) 65 (omega (arith, ok.few-sites)));
-    }
+pub divide-requires-clause-shares_len : goal.divide-requires-clause-shares_len
+divide-requires-clause-shares_len c =
+    let ok = c.args.town.accepted in
+    (front_length _ most_width (omega (arith, ok.few-sites)), front-blank _ most_width (omega (arith, ok.few-sites)))
+
+pub best-requires : goal.best-requires
+best-requires c =
+    let begun = c.divide.ensures.begun in
+    let streets = c.divide.auto.division ∙ c.requires.division_len in
+    (problem _ _ (sym streets) (street-ready c.args.town.accepted c.fill_values.ensures) begun.shared.size begun.shared.nobody, begun.divided)
 
 pub returns : goal.returns
 returns c =
-    let a = c.args in
-    let p = c.requires in
-    let t = c.divide_table.ensures in
-    let best = best-surveyed _ _ a.n a.m a.rows.now (street-same p.accepted.0 _ c.fill_values.ensures) a.planned a.sites.now p.accepted.1 _
-    p.division_len _ _ _ t.total t.division t.sites in
-    record { total = best.0; division = best.1.0; sites = best.1.1 }
+    let t = lent c.args.town.town in
+    let ok = c.args.town.accepted in
+    let begun = c.divide.ensures.begun in
+    let streets = c.divide.auto.division ∙ c.requires.division_len in
+    let sites = chosen-shareable t c.args.chooser c.args.sites.now _ c.requires.listed c.divide.ensures.sites in
+    let best = as-surveyed t _ (street-same ok c.fill_values.ensures) sites streets begun.shared.size begun.shared.right (c.best.ensures.total, c.best.ensures.division) in
+    record { total = best.0; division = best.1; sites = c.divide.ensures.sites }

@@ -9,9 +9,9 @@ use Rattle.floors.proofs.floor.Goals as goal
 
 pub overflow_mul-result : goal.overflow_mul-result
 overflow_mul-result c =
-    let least : let a = c.args in c.least-least.result ≡ least_of a.n a.weights.now = rw c.requires.0.weights-fit at c.least-least.ensures in
-    let a = c.args in
-    let ok = c.requires.0 in
-    let low : c.least-least.result ≤ top_weight =
-    omega (arith, least, least-low a.n a.weights.now 0 ok.some-street, weight-bound a.weights.now ok.sound-weights 0) in
+    let t = c.args.town.town in
+    let ok = c.args.town.accepted in
+    let least : c.least.result ≡ least_of t.n t.weights.now = rw ok.weights-fit at c.least.ensures in
+    let low : c.from.result ≤ top_weight =
+    omega (arith, c.from.ensures, least, least-low t.n t.weights.now 0 ok.some-street, weight-bound t.weights.now ok.sound-weights 0) in
     omega (arith, mul-le-mul low c.plain_floor.ensures.1)

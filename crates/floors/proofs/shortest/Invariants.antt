@@ -1,7 +1,6 @@
 use mathlib.Core.Path.{◌≡◌}
-use Prim.Native.Nat.{◌≤◌}
 use Rattle.survey.specs.Rows.{shortest_of}
 use Rattle.floors.proofs.shortest.Given as goal
 
 abbrev pub invariant-loop-s : goal.invariant-loop-s
-invariant-loop-s l = (l.s ≤ l.n) × (l.least ≡ shortest_of l.s l.m l.rows)
+invariant-loop-s l = l.least ≡ shortest_of l.s l.town.m l.town.rows.now

@@ -1,13 +1,5 @@
-use Rattle.free_results.proofs.Results.{total-ready, total-found, served}
+use Rattle.free_results.proofs.Results.{served}
 use Rattle.free_results.proofs.divide.Goals as goal
 
-pub total_of-requires : goal.total_of-requires
-total_of-requires c =
-    let ready = total-ready c.requires.accepted.0 c.planned-state.ensures.held in
-    record { bests_len = ready.0; weighed = ready.1 }
-
-pub returns : goal.returns
-returns c =
-    let e = c.planned-state.ensures in
-    let p = c.requires in
-    record { total = total-found p.accepted.0 e.held e.sites.1 c.total_of.ensures; division = served p.accepted.0 e.held e.sites.1 p.division_len c.serve.ensures }
+pub returns-clause-division : goal.returns-clause-division
+returns-clause-division c = served c.args.town.accepted c.planned-state.ensures.held c.planned-state.ensures.sites.1 c.serve.ensures

@@ -1,17 +1,18 @@
-use Rattle.refusals.proofs.Listed.{balanced-division-listed, balanced-division-fits}
+use borrow.Author.Rules.{rules}
+use Rattle.refusals.proofs.Listed.{balanced-division-fits}
 use Rattle.list_calls.proofs.ListPromises.{balanced-division-refused, shareable, balanced-division-given}
 use Rattle.list_calls.proofs.balanced_division.Goals as goal
 
-pub returns-then-x-ne0 : goal.returns-then-x-ne0
-returns-then-x-ne0 c = balanced-division-refused c.balanced_division_refusal-x.ensures c.if-x-ne0.true
+pub returns-in_err-accepted : goal.returns-in_err-accepted
+returns-in_err-accepted c = balanced-division-refused _ c.in_err-accepted.ensures.tried _ (search rules)
 
 pub divide-requires : goal.divide-requires
 divide-requires c =
-    let tried = c.balanced_division_refusal-x.ensures in
-    let z = c.if-x-ne0.false in
-    record { accepted = ((balanced-division-listed tried z).called.survey, shareable tried z); division_len = balanced-division-fits tried z }
+    let e = c.in_ok-accepted.ensures in
+    rw e.same_town record { shareable = shareable e.tried; division_len = balanced-division-fits e.tried }
 
 pub returns : goal.returns
 returns c =
+    let e = c.in_ok-accepted.ensures in
     let t = c.divide.ensures in
-    balanced-division-given c.balanced_division_refusal-x.ensures c.if-x-ne0.false t.total t.division
+    balanced-division-given e.tried (rw e.same_town at t.total) (rw e.same_town at t.division)

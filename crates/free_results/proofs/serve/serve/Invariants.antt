@@ -1,6 +1,4 @@
-use mathlib.Core.Path.{◌≡◌}
-use Prim.Native.Nat.{◌≤◌}
-use lib.ListN.{length, get_or}
+use lib.ListN.{get_or}
 use mathlib.Core.Bool.{false}
 use Rattle.counting.specs.Buffers.{Mapped}
 use Rattle.survey.specs.Rows.{row_at, ranked_part}
@@ -8,5 +6,5 @@ use Rattle.free_plan.specs.Greedy.{goes_to}
 use Rattle.free_results.proofs.serve.serve.Given as goal
 
 abbrev pub invariant-loop-s : goal.invariant-loop-s
-invariant-loop-s l = (l.s ≤ l.s-end) × (l.s-end ≡ length l.initial.division)
-    × Mapped (λ t x. goes_to (λ a. get_or l.flags a false) (ranked_part (row_at l.m l.rows t))) l.initial.division l.division l.s
+invariant-loop-s l = let t = l.town.town in
+    Mapped (λ u x. goes_to (λ a. get_or l.flags a false) (ranked_part (row_at t.m t.rows.now u))) l.initial.division l.division l.s

@@ -1,5 +1,4 @@
 use mathlib.Core.Path.{◌≡◌}
-use Prim.Native.Nat.{◌≤◌, ◌-◌}
 use lib.ListN.{length}
 use Rattle.survey.specs.Rows.{score_at}
 use Rattle.tables.specs.Entries.{by_site}
@@ -7,7 +6,5 @@ use Rattle.tables.proofs.Filling.{Filled}
 use Rattle.tables.proofs.by_site.fill_values.Given as goal
 
 abbrev pub invariant-loop-s : goal.invariant-loop-s
-invariant-loop-s l = (l.s ≤ l.n) × Filled (λ t. score_at l.scores) (by_site l.n) l.n l.m l.rows l.values l.s × (length l.values ≡ length l.initial.values)
-
-abbrev pub decreases-loop-s : goal.decreases-loop-s
-decreases-loop-s l = l.n - l.s
+invariant-loop-s l = let t = l.town in
+    Filled (λ u. score_at t.scores.now) (by_site t.n) t.n t.m t.rows.now l.values l.s × (length l.values ≡ length l.initial.values)

@@ -1,5 +1,5 @@
 use mathlib.Core.Path.{◌≡◌}
-use Prim.Native.Nat.{◌+◌, ◌*◌, ◌≤◌, ◌-◌}
+use Prim.Native.Nat.{◌+◌, ◌*◌}
 use lib.ListN.{length}
 use Rattle.counting.specs.Lists.{at}
 use Rattle.survey.specs.Rows.{score_at}
@@ -8,7 +8,6 @@ use Rattle.tables.proofs.Filling.{Filled}
 use Rattle.tables.proofs.by_street.fill_values.Given as goal
 
 abbrev pub invariant-loop-s : goal.invariant-loop-s
-invariant-loop-s l = (l.s ≤ l.n) × Filled (λ t p. at l.weights t * score_at l.scores p) (by_street (l.m + 1)) l.n l.m l.rows l.values l.s × (length l.values ≡ length l.initial.values)
-
-abbrev pub decreases-loop-s : goal.decreases-loop-s
-decreases-loop-s l = l.n - l.s
+invariant-loop-s l = let t = l.town in
+    Filled (λ u p. at t.weights.now u * score_at t.scores.now p) (by_street (t.m + 1)) t.n t.m t.rows.now l.values l.s
+    × (length l.values ≡ length l.initial.values)

@@ -1,18 +1,18 @@
-use borrow.Author.Rules.{rules}
 use mathlib.Core.Path.{◌∙◌}
 use native.Mathlib.Omega.{arith}
-use Rattle.tables.proofs.Keyed.{keys_none, keys-more}
+use Rattle.tables.proofs.Keyed.{keys_none, street-last, keys-more}
 use Rattle.tables.proofs.keys.fill_keys.Goals as goal
 
 pub loop-s-init : goal.loop-s-init
 loop-s-init c =
-    let p = c.requires in
-    let filled = c.fill_last.ensures in
-    (search rules, keys_none _ _ _ _ _ p.ranked.few-streets p.ranked.few-sites p.keys_len filled, filled.size ∙ p.keys_len)
+    let t = c.args.town in
+    (keys_none t.town.rows.now t.accepted.few-streets t.accepted.few-sites c.requires (c.fill.ensures.after (λ y e. e)), c.fill.ensures.len ∙ c.requires)
+
+pub fill_street-requires-clause-unread : goal.fill_street-requires-clause-unread
+fill_street-requires-clause-unread c = street-last c.args.town.accepted (omega arith) c.row.ensures c.loop-s.invariant.0
 
 pub loop-s-preserved : goal.loop-s-preserved
 loop-s-preserved c =
-    let ok = c.requires.ranked in
     let l = c.loop-s in
     let call = c.fill_street in
-    (omega arith, keys-more ok (omega arith) l.invariant.1 call.new.keys call.auto.keys call.ensures, call.auto.keys ∙ l.invariant.2)
+    (keys-more c.args.town.accepted (omega arith) c.row.ensures l.invariant.0 call.new.keys call.auto.keys call.ensures, call.auto.keys ∙ l.invariant.1)
