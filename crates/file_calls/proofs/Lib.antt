@@ -1,3 +1,2 @@
-pub mod ReadAnswers
 pub mod FilePromises
 pub mod ConvertPromises

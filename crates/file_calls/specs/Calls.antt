@@ -1,7 +1,7 @@
 -- What the writer, the reader and the converter of survey files promise, each in one record, on every input. A buffer holds `after REFUSAL NEW OLD`: the
 -- new bytes where the call is accepted, else what it held.
 -- Assumes nothing.
-use Rattle.std.specs.Prelude.{◌≡◌, true, List, ℕ, ◌≤◌, length, take}
+use Rattle.std.specs.Prelude.{◌≡◌, true, List, ℕ, ◌≤◌, Result, length, take}
 use Rattle.counting.specs.Buffers.{after}
 use Rattle.survey.specs.Refusals.{kind_refusal, survey_refusal}
 use Rattle.survey_file.specs.Filed.{Filed, in_form}
@@ -10,10 +10,10 @@ use Rattle.survey_file.specs.Decode.{decode, Given, form_in, chosen_in, kind_in,
 use Rattle.survey_file.specs.FileBuffers.{rows_read, scores_read, weights_read, file_written, converted, file_converted}
 use Rattle.refusals.specs.Inputs.{WriteInput, ReadInput, ConvertInput, write_of, convert_of}
 use Rattle.refusals.specs.Refusals.{write_refusal, read_refusal, convert_refusal}
-use Rattle.call_answers.specs.declared.Answer.{Answer}
+use Rattle.call_answers.specs.declared.Refusal.{Refusal}
 use Rattle.call_answers.specs.Answers.{Told, accepts, total}
-use Rattle.file_calls.specs.declared.Read.{Read}
-use Rattle.file_calls.specs.Answers.{ReadTold, read_accepts}
+use Rattle.survey_file.specs.declared.Sizes.{Sizes}
+use Rattle.file_calls.specs.Answers.{ReadTold}
 
 -- a file that was made: the first bytes of the buffer are a file that reading gives back as all that it was to hold, its form and weights among it
 pub record ReadsBack (f : Filed) (file : List ℕ) (size : ℕ) : Type 0 where
@@ -34,7 +34,7 @@ pub record ConvertsBack (file back : List ℕ) : Type 0 where
   pub converted-back : converted (form_in file) back ≡ file
 
 -- survey file writer; `file` is what the buffer holds afterwards
-pub record FileWritten (i : WriteInput) (file : List ℕ) (r : Answer) : Type 0 where
+pub record FileWritten (i : WriteInput) (file : List ℕ) (r : Result ℕ Refusal) : Type 0 where
   -- the first number that applies, or the file's length
   pub answer : Told r (write_refusal i) (length (encode i.filed))
   -- the file, and no byte past it changed
@@ -43,7 +43,7 @@ pub record FileWritten (i : WriteInput) (file : List ℕ) (r : Answer) : Type 0 
   pub back : accepts r ≡ true → ReadsBack i.filed file (total r)
 
 -- survey file reader; `scores`, `weights` and `rows` are what the three buffers hold afterwards
-pub record FileRead (i : ReadInput) (scores weights rows : List ℕ) (r : Read) : Type 0 where
+pub record FileRead (i : ReadInput) (scores weights rows : List ℕ) (r : Result Sizes Refusal) : Type 0 where
   -- the first number that applies, or the sizes, the kind and the form
   pub answer : ReadTold r (read_refusal i) i.file
   -- the first m numbers are the scores, and later ones stay
@@ -53,10 +53,10 @@ pub record FileRead (i : ReadInput) (scores weights rows : List ℕ) (r : Read) 
   -- the first n times m bytes are the rows, and later ones stay
   pub row-bytes : rows ≡ after (read_refusal i) (rows_read i.file i.rows) i.rows
   -- what was read is an accepted survey, and writing it in its form gives back the file
-  pub back : read_accepts r ≡ true → WritesBack i.file
+  pub back : accepts r ≡ true → WritesBack i.file
 
 -- survey file converter; `buffer` is what the buffer holds afterwards
-pub record FileConverted (i : ConvertInput) (buffer : List ℕ) (r : Answer) : Type 0 where
+pub record FileConverted (i : ConvertInput) (buffer : List ℕ) (r : Result ℕ Refusal) : Type 0 where
   -- the first number that applies, or the length of the file in the form that is wanted
   pub answer : Told r (convert_refusal i) (length (converted i.wanted i.file))
   -- that file, and no byte past it changed

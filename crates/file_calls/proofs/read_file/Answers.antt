@@ -1,22 +1,20 @@
-use mathlib.Core.Path.{sym, ◌∙◌}
 use native.Mathlib.Omega.{arith}
-use Rattle.file_refusals.proofs.SizesGiven.{first-number, sizes-given, sizes-refused}
+use Rattle.std.proofs.lemmas.Result.{err_from_is_err_and}
 use Rattle.file_calls.proofs.FilePromises.{file-refused, fill-ready, file-given}
 use Rattle.file_calls.proofs.read_file.Goals as goal
 
-pub returns-in_default : goal.returns-in_default
-returns-in_default c =
-    let told = c.read_sizes-found.ensures in
-    file-refused (record { first = c.number_of.ensures ∙ first-number told })
-    (λ z. sizes-refused told c.in_default.is (sym c.number_of.ensures ∙ z))
+pub returns-in_err-taken : goal.returns-in_err-taken
+returns-in_err-taken c =
+    let left = err_from_is_err_and c.from_residual.result c.from_residual.ensures.1 in
+    rw (left.1, left.2) (file-refused _ c.in_err-taken.ensures.tried)
 
 pub fill-requires : goal.fill-requires
-fill-requires c =
-    let ready = fill-ready (sizes-given c.read_sizes-found.ensures c.in-Sizes.is) in
-    record { file_taken = ready.0; rows_len = ready.1 }
+fill-requires c = fill-ready c.in_ok-taken.ensures.tried
 
 pub returns : goal.returns
 returns c =
-    let given = sizes-given c.read_sizes-found.ensures c.in-Sizes.is in
+    let tried = c.in_ok-taken.ensures.tried in
+    let taken = c.in_ok-taken.ensures.taken in
     let new = c.fill.ensures in
-    file-given given (λ j. omega (arith, c.type_inv.file j)) new.rows new.scores new.weights
+    file-given tried (λ j. omega (arith, c.type_inv.file j)) taken.1
+    (rw taken.0 at new.rows) (rw taken.0 at new.scores) (rw taken.0 at new.weights)

@@ -1,40 +1,29 @@
-use mathlib.Core.Path.{◌≡◌}
 use native.Mathlib.Omega.{arith}
-use lib.ListN.{length}
-use Rattle.survey.specs.Town.{town_of}
-use Rattle.survey_file.specs.Filed.{filed_of}
-use Rattle.survey_file.specs.Encode.{encode}
-use Rattle.file_calls.proofs.FilePromises.{write-refused, write-accepted, write-ready, write-room, write-short, write-given}
+use Rattle.std.proofs.lemmas.Result.{err_from_is_err_and}
+use Rattle.file_calls.proofs.FilePromises.{write-refused, write-ready, write-room, write-short, write-given}
 use Rattle.file_calls.proofs.write_file.Goals as goal
 
-pub returns-then-x-ne0 : goal.returns-then-x-ne0
-returns-then-x-ne0 c = write-refused c.write_refusal-x.ensures c.if-x-ne0.true
+pub returns-in_err-accepted : goal.returns-in_err-accepted
+returns-in_err-accepted c =
+    let left = err_from_is_err_and c.from_residual.result c.from_residual.ensures.1 in
+    rw (left.1, left.2) (write-refused _ c.in_err-accepted.ensures.tried)
 
-pub file_length-size-requires : goal.file_length-size-requires
-file_length-size-requires c =
-    let ok = write-accepted c.write_refusal-x.ensures c.if-x-ne0.false in
-    (ok.few-streets, ok.few-sites, ok.rows_fit)
+pub write-requires-clause-sizes : goal.write-requires-clause-sizes
+write-requires-clause-sizes c = let e = c.in_ok-accepted.ensures in rw e.same_town (write-ready e.tried)
 
-pub write-requires : goal.write-requires
-write-requires c =
-    let tried = c.write_refusal-x.ensures in
-    let z = c.if-x-ne0.false in
-    record { accepted = write-accepted tried z; k_le_m = write-ready tried z; kind_in_bounds = write-room tried z }
+pub write-requires-clause-room : goal.write-requires-clause-room
+write-requires-clause-room c = let e = c.in_ok-accepted.ensures in rw e.same_town (write-room e.tried)
 
 pub overflow_cast-result : goal.overflow_cast-result
 overflow_cast-result c =
-    let sized : let a = c.args in
-    c.file_length-size.result
-    ≡ length (encode (filed_of a.new_form (town_of a.n a.m a.scores.now a.weights.now a.rows.now) a.k a.kind)) = let a = c.args in
-    let ok = write-accepted c.write_refusal-x.ensures c.if-x-ne0.false in
-    c.file_length-size.ensures a.k a.kind a.scores.now a.weights.now ok.weights-fit in
-    omega (arith, sized, write-short c.write_refusal-x.ensures c.if-x-ne0.false)
+    let e = c.in_ok-accepted.ensures in
+    let t = c.in_ok-accepted.accepted in
+    let size = c.file_length-size.ensures c.args.k c.args.kind t.town.scores.now t.town.weights.now t.accepted.weights-fit in
+    omega (arith, rw e.same_town at size, write-short e.tried)
 
 pub returns : goal.returns
 returns c =
-    let sized : let a = c.args in
-    c.file_length-size.result
-    ≡ length (encode (filed_of a.new_form (town_of a.n a.m a.scores.now a.weights.now a.rows.now) a.k a.kind)) = let a = c.args in
-    let ok = write-accepted c.write_refusal-x.ensures c.if-x-ne0.false in
-    c.file_length-size.ensures a.k a.kind a.scores.now a.weights.now ok.weights-fit in
-    write-given c.write_refusal-x.ensures c.if-x-ne0.false (sized) c.write.ensures
+    let e = c.in_ok-accepted.ensures in
+    let t = c.in_ok-accepted.accepted in
+    let size = c.file_length-size.ensures c.args.k c.args.kind t.town.scores.now t.town.weights.now t.accepted.weights-fit in
+    write-given e.tried (rw e.same_town at size) (rw e.same_town at c.write.ensures)
