@@ -4,6 +4,7 @@ use mathlib.Core.Path.{◌≡◌, sym, ◌∙◌}
 use mathlib.Core.Bool.{true}
 use Prim.Native.Nat.{ℕ}
 use lib.ListN.{length}
+use Rattle.std.specs.Prelude.{Result}
 use Rattle.counting.proofs.Refusals.{or-zero}
 use Rattle.survey.specs.Rows.{value}
 use Rattle.survey.proofs.Sound.{own-accepted}
@@ -15,17 +16,17 @@ use Rattle.plans.specs.Plans.{plan_total, shares_for}
 use Rattle.plans.specs.Unweighted.{Ones, plain_plan_total}
 use Rattle.plans.proofs.Unweighted.{plan-total-plain}
 use Rattle.refusals.specs.Inputs.{HandInput}
-use Rattle.refusals.specs.Refusals.{Tried, LoadNumbers, load_numbers, no_loads, hand_by, hand_refusal, free_hand_by, balanced_hand_by, LoadsTaken}
+use Rattle.refusals.specs.Refusals.{LoadNumbers, load_numbers, no_loads, hand_by, hand_refusal, free_hand_by, balanced_hand_by, LoadsTaken}
 use Rattle.refusals.proofs.Listed.{passed, fits}
 use Rattle.refusals.proofs.ByKind.{hand-free, hand-balanced, hand-other}
 use Rattle.refusals.proofs.Passed.{hand-passed, shares-passed, loads-same}
-use Rattle.call_answers.specs.declared.Answer.{Answer}
-use Rattle.call_answers.specs.Answers.{Told, number, accepts}
+use Rattle.call_answers.specs.declared.Refusal.{Refusal}
+use Rattle.call_answers.specs.Answers.{Tried, Told, number, accepts}
 use Rattle.call_answers.proofs.Answers.{told-passed, told_same}
 use Rattle.hand_calls.specs.Passing.{LoadedHand, SharedHand}
 use Rattle.hand_calls.specs.Calls.{HandOutcome, HandTested}
 
-module _ (i : HandInput) (r : Answer) (told : Told r (hand_refusal i) (plan_total i.town i.division)) where
+module _ (i : HandInput) (r : Result ℕ Refusal) (told : Told r (hand_refusal i) (plan_total i.town i.division)) where
   -- a plan of either kind that passes is within its limits, and where it is, its number is the one without loads
   loaded : LoadsTaken i.town i.loads → LoadedHand i (hand_by no_loads i) (number r)
   loaded taken =
@@ -73,5 +74,5 @@ module _ (i : HandInput) (r : Answer) (told : Told r (hand_refusal i) (plan_tota
       }
 
 -- the claim of a plan that passes is its total
-pub hand-claimed : {i : HandInput} {x : ℕ} → Tried hand_refusal i x → x ≡ 0 → i.claimed ≡ plan_total i.town i.division
-hand-claimed {i} tried z = (hand-passed i (passed tried z)).right
+pub hand-claimed : {i : HandInput} → Tried hand_refusal i 0 → i.claimed ≡ plan_total i.town i.division
+hand-claimed {i} tried = (hand-passed i (passed tried)).right

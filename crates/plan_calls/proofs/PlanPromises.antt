@@ -5,6 +5,8 @@ use mathlib.Core.Bool.{true}
 use mathlib.Core.List.{List}
 use Prim.Native.Nat.{ℕ}
 use lib.ListN.{length}
+use Rattle.std.specs.Prelude.{Result, Ok}
+use Rattle.std.specs.Result.{IsErrAnd}
 use Rattle.counting.proofs.Refusals.{or-zero}
 use Rattle.survey.specs.Refusals.{share_refusal}
 use Rattle.survey.proofs.Sound.{accepted, own-accepted, chosen-within}
@@ -14,13 +16,12 @@ use Rattle.plans.specs.Plans.{Plan, free_plan, balanced_plan, plan_of_kind, plan
 use Rattle.plans.specs.Unweighted.{Ones, plain_plan_of_kind}
 use Rattle.plans.proofs.Unweighted.{plan-plain, floor-plain}
 use Rattle.refusals.specs.Inputs.{SurveyInput, PlanInput}
-use Rattle.refusals.specs.Refusals.{Tried, plan_refusal, free_plan_refusal, balanced_plan_refusal, floor_refusal}
+use Rattle.refusals.specs.Refusals.{plan_refusal, free_plan_refusal, balanced_plan_refusal, floor_refusal}
 use Rattle.refusals.proofs.Listed.{plan-fits}
 use Rattle.refusals.proofs.ByKind.{plan-free, plan-balanced, plan-other}
-use Rattle.call_answers.specs.declared.Answer.{Answer}
-use Rattle.call_answers.specs.declared.Answer.TheVariants as answer
-use Rattle.call_answers.specs.Answers.{Told, accepts, total}
-use Rattle.call_answers.proofs.Answers.{told-passed, told-due, told-new, told-refused, told-total, told_same, after_same, kept-refused, new-accepted}
+use Rattle.call_answers.specs.declared.Refusal.{Refusal}
+use Rattle.call_answers.specs.Answers.{Tried, Told, number_of, accepts, total}
+use Rattle.call_answers.proofs.Answers.{told-passed, told-due, told-new, told-error, told-total, told_same, after_same, kept-refused, new-accepted}
 use Rattle.plan_calls.specs.Good.{GoodFree, GoodBalanced}
 use Rattle.plan_calls.specs.Calls.{PlanOutcome, Planned, FloorGiven}
 use Rattle.plan_calls.proofs.GoodPlans.{good-free, good-balanced}
@@ -29,7 +30,7 @@ use Rattle.plan_calls.proofs.GoodPlans.{good-free, good-balanced}
 abbrev Made : Plan → ℕ → List ℕ → List ℕ → Type 0
 Made p reported division chosen = (reported ≡ p.reported) × (division ≡ p.division) × (chosen ≡ p.sites)
 
-module _ {i : PlanInput} {division chosen : List ℕ} {r : Answer} where
+module _ {i : PlanInput} {division chosen : List ℕ} {r : Result ℕ Refusal} where
   -- the same outcome by another name of the number and of the plan
   outcome-as : {x y : ℕ} {p q : Plan} → x ≡ y → p ≡ q → PlanOutcome i x p division chosen r → PlanOutcome i y q division chosen r
   outcome-as e f o = rw (e, f) at o
@@ -81,32 +82,34 @@ module _ {i : PlanInput} {division chosen : List ℕ} {r : Answer} where
           let enough = (or-zero (share_refusal i.town.n i.k) _ (own-accepted i.town i.k _ ok)).0 in
           of-plan (GoodBalanced i.town i.k) (balanced z) y (good-balanced i.town i.k _ ok enough)
 
-module _ {i : PlanInput} {x : ℕ} (tried : Tried plan_refusal i x) where
-  pub plan-refused : (x ≡ 0 → ⊥) → Planned i i.division i.chosen (answer.Refused x)
-  plan-refused h = planned (record { answer = told-refused tried h; streets = kept-refused tried h _ _; sites = kept-refused tried h _ _ })
+pub plan-refused : {i : PlanInput} (e : Refusal) → Tried plan_refusal i (number_of e) → (r : Result ℕ Refusal) → IsErrAnd r (λ y. y ≡ e)
+    → Planned i i.division i.chosen r
+plan-refused e tried r h =
+    planned (record { answer = told-error e tried r h; streets = kept-refused e tried _ _; sites = kept-refused e tried _ _ })
 
+module _ {i : PlanInput} (tried : Tried plan_refusal i 0) where
   -- what an engine gave for the length of the lent list of sites, if it is the plan of the kind
-  given : x ≡ 0 → (p : Plan) → plan_of_kind i.kind i.town (length i.chosen) ≡ p → {division chosen : List ℕ} {reported : ℕ}
-      → Made p reported division chosen → Planned i division chosen (answer.Total reported)
-  given z p e (t, d, c) =
-      let due : p ≡ plan_of_kind i.kind i.town i.k = sym e ∙ ap (plan_of_kind i.kind i.town) (plan-fits tried z).1 in
+  given : (p : Plan) → plan_of_kind i.kind i.town (length i.chosen) ≡ p → {division chosen : List ℕ} {reported : ℕ}
+      → Made p reported division chosen → Planned i division chosen (Ok reported)
+  given p e (t, d, c) =
+      let due : p ≡ plan_of_kind i.kind i.town i.k = sym e ∙ ap (plan_of_kind i.kind i.town) (plan-fits tried).1 in
       planned
       (record {
-        answer = told-total tried z (t ∙ ap (λ (q : Plan). q.reported) due);
-        streets = new-accepted tried z _ _ (d ∙ ap (λ (q : Plan). q.division) due);
-        sites = new-accepted tried z _ _ (c ∙ ap (λ (q : Plan). q.sites) due);
+        answer = told-total tried (t ∙ ap (λ (q : Plan). q.reported) due);
+        streets = new-accepted tried _ _ (d ∙ ap (λ (q : Plan). q.division) due);
+        sites = new-accepted tried _ _ (c ∙ ap (λ (q : Plan). q.sites) due);
       })
 
-  pub free-given : x ≡ 0 → i.kind ≡ 0 → {division chosen : List ℕ} {reported : ℕ}
-      → Made (free_plan i.town (length i.chosen)) reported division chosen → Planned i division chosen (answer.Total reported)
-  free-given z kind = given z _ (kind-free _ _ i.kind kind)
+  pub free-given : i.kind ≡ 0 → {division chosen : List ℕ} {reported : ℕ}
+      → Made (free_plan i.town (length i.chosen)) reported division chosen → Planned i division chosen (Ok reported)
+  free-given kind = given _ (kind-free _ _ i.kind kind)
 
-  pub balanced-given : x ≡ 0 → (i.kind ≡ 0 → ⊥) → {division chosen : List ℕ} {reported : ℕ}
-      → Made (balanced_plan i.town (length i.chosen)) reported division chosen → Planned i division chosen (answer.Total reported)
-  balanced-given z kind = given z _ (kind-balanced _ _ i.kind kind)
+  pub balanced-given : (i.kind ≡ 0 → ⊥) → {division chosen : List ℕ} {reported : ℕ}
+      → Made (balanced_plan i.town (length i.chosen)) reported division chosen → Planned i division chosen (Ok reported)
+  balanced-given kind = given _ (kind-balanced _ _ i.kind kind)
 
 -- ---- the floor
-pub floor-given : (i : SurveyInput) (r : Answer) → Told r (floor_refusal i) (plan_floor i.town i.k) → FloorGiven i r
+pub floor-given : (i : SurveyInput) (r : Result ℕ Refusal) → Told r (floor_refusal i) (plan_floor i.town i.k) → FloorGiven i r
 floor-given i r told =
     record {
       answer = told;

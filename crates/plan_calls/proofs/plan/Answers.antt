@@ -1,31 +1,29 @@
+use borrow.Author.Rules.{rules}
 use Rattle.refusals.proofs.Listed.{plan-fits, plan-asked}
 use Rattle.plan_calls.proofs.PlanPromises.{plan-refused, free-given, balanced-given}
 use Rattle.plan_calls.proofs.plan.Goals as goal
 
-pub returns-then-x-ne0 : goal.returns-then-x-ne0
-returns-then-x-ne0 c = plan-refused c.plan_refusal-x.ensures c.if-x-ne0.true
+pub returns-in_err-accepted : goal.returns-in_err-accepted
+returns-in_err-accepted c = plan-refused _ c.in_err-accepted.ensures.tried _ (search rules)
 
 pub plan-requires : goal.plan-requires
 plan-requires c =
-    let tried = c.plan_refusal-x.ensures in
-    let z = c.if-x-ne0.false in
-    let asked = plan-asked tried z in
-    record { accepted = (asked.0, asked.2); division_len = (plan-fits tried z).0 }
+    let e = c.in_ok-accepted.ensures in
+    rw e.same_town record { chosen_len = (plan-asked e.tried).2; division_len = (plan-fits e.tried).0 }
 
 pub returns-then-kind-eq0 : goal.returns-then-kind-eq0
 returns-then-kind-eq0 c =
-    let tried = c.plan_refusal-x.ensures in
-    let e = c.plan.ensures in
-    free-given tried c.if-x-ne0.false c.if-kind-eq0.true (e.total, e.division, e.chosen)
+    let e = c.in_ok-accepted.ensures in
+    let p = c.plan.ensures in
+    free-given e.tried c.if-kind-eq0.true (rw e.same_town at p.total, rw e.same_town at p.division, rw e.same_town at p.chosen)
 
 pub plan-requires-2 : goal.plan-requires-2
 plan-requires-2 c =
-    let tried = c.plan_refusal-x.ensures in
-    let z = c.if-x-ne0.false in
-    record { accepted = plan-asked tried z; division_len = (plan-fits tried z).0 }
+    let e = c.in_ok-accepted.ensures in
+    rw e.same_town record { chosen_len = ((plan-asked e.tried).1, (plan-asked e.tried).2); division_len = (plan-fits e.tried).0 }
 
 pub returns : goal.returns
 returns c =
-    let tried = c.plan_refusal-x.ensures in
-    let e = c.plan-2.ensures in
-    balanced-given tried c.if-x-ne0.false c.if-kind-eq0.false (e.total, e.division, e.chosen)
+    let e = c.in_ok-accepted.ensures in
+    let p = c.plan-2.ensures in
+    balanced-given e.tried c.if-kind-eq0.false (rw e.same_town at p.total, rw e.same_town at p.division, rw e.same_town at p.chosen)
