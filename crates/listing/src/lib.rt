@@ -7,7 +7,7 @@ ghost use Rattle.survey.specs.Rows.{row_at, place_of};
 ghost use Rattle.listing.specs.Listing.{decimal, spaced, numbers_text, line, sites_word, street_line, street_lines, listing};
 
 use byte_writer::write_list;
-use survey::rows;
+use survey::{Town, rows};
 
 // A number in decimal; 48 is the digit 0.
 fn write_decimal(x: usize, out: &mut [u8], i: usize) -> usize
@@ -49,8 +49,8 @@ fn write_sites(sites: &[u8], out: &mut [u8], i: usize) -> usize
     ensures { Written out.old i (numbers_text sites.now) out.new result }
 {
     let mut next = i;
-    for j in 0..sites.len() {
-        next = write_spaced(sites[j] as usize, out, next);
+    for site in sites {
+        next = write_spaced(*site as usize, out, next);
     }
     next
 }
@@ -67,23 +67,21 @@ fn write_chosen(sites: &[u8], out: &mut [u8], i: usize) -> usize
 }
 
 // The place that a street gives a site.
-fn place_of(m: usize, rows: &[u8], s: usize, site: u8) -> usize
-    requires { s * m + m ≤ length rows.now }
-    ensures { result ≡ place_of (row_at m rows.now s) site }
+fn place_of(town: Town<'_>, s: usize, site: u8) -> usize
+    requires { s * town.m + town.m ≤ length town.rows.now }
+    ensures { result ≡ place_of (row_at town.entry.m town.entry.rows.now s) site }
 {
-    let from = s * m;
-    let to = from + m;
-    rows::place(&rows[from..to], site)
+    rows::place(town.row(s), site)
 }
 
 // The line of a street.
-fn write_street(m: usize, rows: &[u8], division: &[u8], s: usize, out: &mut [u8], i: usize) -> usize
-    requires s_in_bounds { (s < length division.now) × (s * m + m ≤ length rows.now) }
-    requires s_in_bounds_2 { i + length (street_line m rows.now division.now s) ≤ length out.old }
-    ensures { Written out.old i (street_line m rows.now division.now s) out.new result }
+fn write_street(town: Town<'_>, division: &[u8], s: usize, out: &mut [u8], i: usize) -> usize
+    requires s_in_bounds { (s < length division.now) × (s * town.m + town.m ≤ length town.rows.now) }
+    requires s_in_bounds_2 { i + length (street_line town.m town.rows.now division.now s) ≤ length out.old }
+    ensures { Written out.old i (street_line town.entry.m town.entry.rows.now division.now s) out.new result }
 {
     let site = division[s];
-    let place = place_of(m, rows, s, site);
+    let place = place_of(town, s, site);
     let behind_word = write_list(b"street", out, i);
     let behind_number = write_spaced(s + 1, out, behind_word);
     let behind_site = write_spaced(site as usize, out, behind_number);
@@ -93,32 +91,32 @@ fn write_street(m: usize, rows: &[u8], division: &[u8], s: usize, out: &mut [u8]
 }
 
 // The lines of all streets.
-fn write_streets(m: usize, rows: &[u8], division: &[u8], out: &mut [u8], i: usize) -> usize
-    requires m_in_bounds { length division.now * m ≤ length rows.now }
-    requires division_in_bounds { i + length (street_lines m rows.now division.now) ≤ length out.old }
-    ensures { Written out.old i (street_lines m rows.now division.now) out.new result }
+fn write_streets(town: Town<'_>, division: &[u8], out: &mut [u8], i: usize) -> usize
+    requires m_in_bounds { length division.now * town.m ≤ length town.rows.now }
+    requires division_in_bounds { i + length (street_lines town.m town.rows.now division.now) ≤ length out.old }
+    ensures { Written out.old i (street_lines town.entry.m town.entry.rows.now division.now) out.new result }
 {
     let mut next = i;
+    // kept: the new form is no plainer, since s is the street's number, and its row and its site are looked up by it
     for s in 0..division.len() {
-        next = write_street(m, rows, division, s, out, next);
+        next = write_street(town, division, s, out, next);
     }
     next
 }
 
 // The listing of a plan.
 pub fn write_listing(
-    m: usize,
-    rows: &[u8],
+    town: Town<'_>,
     total: usize,
     sites: &[u8],
     division: &[u8],
     out: &mut [u8],
 ) -> usize
-    requires m_in_bounds { length division.now * m ≤ length rows.now }
-    requires division_in_bounds { length (listing m rows.now total sites.now division.now) ≤ length out.old }
-    ensures { Written out.old 0 (listing m rows.now total sites.now division.now) out.new result }
+    requires m_in_bounds { length division.now * town.m ≤ length town.rows.now }
+    requires division_in_bounds { length (listing town.m town.rows.now total sites.now division.now) ≤ length out.old }
+    ensures { Written out.old 0 (listing town.entry.m town.entry.rows.now total sites.now division.now) out.new result }
 {
     let behind_total = write_line(b"total", total, out, 0);
     let behind_sites = write_chosen(sites, out, behind_total);
-    write_streets(m, rows, division, out, behind_sites)
+    write_streets(town, division, out, behind_sites)
 }

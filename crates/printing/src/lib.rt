@@ -16,99 +16,71 @@ use survey::Survey;
 // A buffer of so many bytes has room for every text: 400 streets have lines of at most 19 bytes each.
 pub const TEXT: usize = 8192;
 
+// The line of a refusal.
+fn write_refused(refusal: Refusal, out: &mut [u8]) -> usize
+    requires { most_text ≤ length out.old }
+    ensures { Written out.old 0 (refused_line (number_of refusal)) out.new result }
+{
+    listing::write_line(b"refused", refusal.number() as usize, out, 0)
+}
+
 // The text of a plan's answer.
 fn write_answer(
-    answer: Answer,
-    m: usize,
-    rows: &[u8],
+    answer: Result<u32, Refusal>,
+    town: Town<'_>,
     sites: &[u8],
     division: &[u8],
     out: &mut [u8],
 ) -> usize
-    requires listing_asked { ListingAsked m rows.now sites.now division.now }
+    requires listing_asked { ListingAsked town.m town.rows.now sites.now division.now }
     requires most_text_in_bounds { most_text ≤ length out.old }
-    ensures { Written out.old 0 (answer_text answer m rows.now sites.now division.now) out.new result }
+    ensures { Written out.old 0 (answer_text answer town.entry.m town.entry.rows.now sites.now division.now) out.new result }
 {
     match answer {
-        Answer::Total(total) => listing::write_listing(
-            m,
-            rows,
-            total as usize,
-            sites,
-            division,
-            out,
-        ),
-        Answer::Refused(x) => listing::write_line(b"refused", x as usize, out, 0),
+        Ok(total) => listing::write_listing(town, total as usize, sites, division, out),
+        Err(refusal) => write_refused(refusal, out),
     }
 }
 
 // The text of an accepted survey; its plan is made in the two buffers.
 fn print_plan(
-    n: usize,
-    m: usize,
+    town: Town<'_>,
     k: usize,
     kind: usize,
-    scores: &[u16],
-    weights: &[u8],
-    rows: &[u8],
     division: &mut [u8],
     chosen: &mut [u8],
     out: &mut [u8],
 ) -> usize
-    requires plan_asked { PlanAsked (plan_of (town_of n m scores.now weights.now rows.now) k kind division.old chosen.old) }
+    requires plan_asked { PlanAsked (plan_of (lent town) k kind division.old chosen.old) }
     requires most_text_in_bounds { most_text ≤ length out.old }
-    ensures { Written out.old 0 (plan_text (town_of n m scores.now weights.now rows.now) k kind) out.new result }
+    ensures { Written out.old 0 (plan_text (lent town.entry) k kind) out.new result }
 {
-    let answer = planner::plan(n, m, k, kind, scores, weights, rows, division, chosen);
-    write_answer(answer, m, rows, chosen, division, out)
+    let answer = planner::plan(town, k, kind, division, chosen);
+    write_answer(answer, town, chosen, division, out)
 }
 
-// The text of an accepted survey, whose scores, weights and rows are the fronts of three buffers.
-fn print_survey<'a>(
-    n: usize,
-    m: usize,
-    k: usize,
-    kind: usize,
-    scores: &'a [u16],
-    weights: &'a [u8],
-    rows: &'a [u8],
-    out: &mut [u8],
-) -> usize
-    requires survey_held { SurveyHeld (survey_held n m k kind scores.now weights.now rows.now) }
+// The text of an accepted survey, whose scores, weights and rows are the fronts of its buffers.
+fn print_survey(survey: &Survey, out: &mut [u8]) -> usize
+    requires survey_held { SurveyHeld survey.now }
     requires most_text_in_bounds { most_text ≤ length out.old }
-    ensures { Written out.old 0 (plan_text (town_held (survey_held n m k kind scores.now weights.now rows.now)) k kind) out.new result }
+    ensures { Written out.old 0 (plan_text (town_held survey.now) survey.now.k survey.now.kind) out.new result }
 {
+    let Survey { n, m, k, kind, .. } = *survey;
     let mut division = [0u8; Survey::STREETS];
     let mut chosen = [0u8; Survey::SITES];
-    let size = n * m;
-    print_plan(
+    let town = Town {
         n,
         m,
+        scores: &survey.scores[..m],
+        weights: &survey.weights[..n],
+        rows: &survey.rows[..n * m],
+    };
+    print_plan(
+        town,
         k,
         kind,
-        &scores[..m],
-        &weights[..n],
-        &rows[..size],
         &mut division[..n],
         &mut chosen[..k],
-        out,
-    )
-}
-
-// The text of an accepted survey.
-fn print_held(survey: Survey, out: &mut [u8]) -> usize
-    requires survey_held { SurveyHeld survey }
-    requires most_text_in_bounds { most_text ≤ length out.old }
-    ensures { Written out.old 0 (plan_text (town_held survey) survey.k survey.kind) out.new result }
-{
-    print_survey(
-        survey.n,
-        survey.m,
-        survey.k,
-        survey.kind,
-        &survey.scores,
-        &survey.weights,
-        &survey.rows,
         out,
     )
 }
@@ -124,16 +96,9 @@ pub fn print(file: &[u8], out: &mut [u8]) -> usize
     let mut rows = empty.rows;
     let mut scores = empty.scores;
     let mut weights = empty.weights;
-    let answer = planner::read_file(file, &mut scores, &mut weights, &mut rows);
-    match answer {
-        Read::Survey {
-            n,
-            m,
-            k,
-            kind,
-            new_form: _,
-        } => print_held(
-            Survey {
+    match planner::read_file(file, &mut scores, &mut weights, &mut rows) {
+        Ok(Sizes { n, m, k, kind, .. }) => print_survey(
+            &Survey {
                 n,
                 m,
                 k,
@@ -144,6 +109,6 @@ pub fn print(file: &[u8], out: &mut [u8]) -> usize
             },
             out,
         ),
-        Read::Refused(x) => listing::write_line(b"refused", x as usize, out, 0),
+        Err(refusal) => write_refused(refusal, out),
     }
 }

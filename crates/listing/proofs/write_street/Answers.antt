@@ -14,7 +14,7 @@ write_spaced-behind_number-requires c =
     let found = c.place_of-place in
     let number = spaced (a.s + 1) in
     let site = spaced (at a.division.now a.s) in
-    let room = numbers-room a.m a.rows.now a.division.now a.s found.result found.ensures c.requires.s_in_bounds_2 c.write_list-behind_word.ensures in
+    let room = numbers-room a.town.m a.town.rows.now a.division.now a.s found.result found.ensures c.requires.s_in_bounds_2 c.write_list-behind_word.ensures in
     front-room _ _ number site (front-room _ _ (number ++ site) (spaced found.result) room)
 
 pub write_spaced-behind_site-requires : goal.write_spaced-behind_site-requires
@@ -23,7 +23,7 @@ write_spaced-behind_site-requires c =
     let found = c.place_of-place in
     let number = spaced (a.s + 1) in
     let site = spaced (at a.division.now a.s) in
-    let room = numbers-room a.m a.rows.now a.division.now a.s found.result found.ensures c.requires.s_in_bounds_2 c.write_list-behind_word.ensures in
+    let room = numbers-room a.town.m a.town.rows.now a.division.now a.s found.result found.ensures c.requires.s_in_bounds_2 c.write_list-behind_word.ensures in
     next-room site c.write_spaced-behind_number.ensures (front-room _ _ (number ++ site) (spaced found.result) room)
 
 pub write_spaced-next-requires : goal.write_spaced-next-requires
@@ -31,7 +31,7 @@ write_spaced-next-requires c =
     let a = c.args in
     let found = c.place_of-place in
     next-room (spaced found.result) (written_next c.write_spaced-behind_number.ensures c.write_spaced-behind_site.ensures)
-    (numbers-room a.m a.rows.now a.division.now a.s found.result found.ensures c.requires.s_in_bounds_2 c.write_list-behind_word.ensures)
+    (numbers-room a.town.m a.town.rows.now a.division.now a.s found.result found.ensures c.requires.s_in_bounds_2 c.write_list-behind_word.ensures)
 
 -- the end behind them
 pub bounds-out-next : goal.bounds-out-next
@@ -39,7 +39,7 @@ bounds-out-next c =
     let a = c.args in
     let found = c.place_of-place in
     let two = written_next c.write_spaced-behind_number.ensures c.write_spaced-behind_site.ensures in
-    end-room a.m a.rows.now a.division.now a.s found.result found.ensures c.requires.s_in_bounds_2
+    end-room a.town.m a.town.rows.now a.division.now a.s found.result found.ensures c.requires.s_in_bounds_2
     (written_next c.write_list-behind_word.ensures (written_next two c.write_spaced-next.ensures))
 
 pub returns : goal.returns
@@ -47,5 +47,5 @@ returns c =
     let a = c.args in
     let found = c.place_of-place in
     let two = written_next c.write_spaced-behind_number.ensures c.write_spaced-behind_site.ensures in
-    street-written a.m a.rows.now a.division.now a.s found.result found.ensures c.requires.s_in_bounds_2
+    street-written a.town.m a.town.rows.now a.division.now a.s found.result found.ensures c.requires.s_in_bounds_2
     (written_next c.write_list-behind_word.ensures (written_next two c.write_spaced-next.ensures))
