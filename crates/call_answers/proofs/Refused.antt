@@ -1,7 +1,9 @@
 -- Laws of chains of tries: a chain is left at a `?` with the refusal's number, and goes on where a try accepts.
 -- Assumes nothing.
-use mathlib.Core.Path.{◌≡◌, refl, sym, ◌∙◌}
-use Prim.Native.Nat.{ℕ, ◌≤◌, ◌<◌}
+use mathlib.Core.Path.{◌≡◌, refl, sym, ap, ◌∙◌}
+use mathlib.Core.List.{[], ◌∷◌}
+use lib.ListN.{get_or}
+use Prim.Native.Nat.{ℕ, ◌≤◌, ◌<◌, ◌-◌}
 use native.Mathlib.Omega.{arith}
 use Rattle.std.specs.Prelude.{Result, Ok, Err}
 use Rattle.std.specs.Result.{IsErrAnd}
@@ -38,6 +40,43 @@ numbered refusal.Kilograms h = omega arith
 numbered refusal.Litres h = omega arith
 numbered refusal.Weight h = omega arith
 numbered refusal.Lost h = omega arith
+
+-- the refusal of a number, so that the number fixes the refusal
+abbrev named : ℕ → Refusal
+named x =
+    get_or (refusal.Streets ∷ refusal.Sites ∷ refusal.Chosen ∷ refusal.Kind ∷ refusal.Share ∷ refusal.Length ∷ refusal.Room ∷ refusal.Score ∷
+    refusal.Gap ∷ refusal.Number ∷ refusal.Twice ∷ refusal.Short ∷ refusal.Mark ∷ refusal.Turn ∷ refusal.Long ∷ refusal.Behind ∷
+    refusal.Range ∷ refusal.Usage ∷ refusal.Claim ∷ refusal.Again ∷ refusal.Load ∷ refusal.Kilograms ∷ refusal.Litres ∷ refusal.Weight ∷ refusal.Lost ∷ []) (x - 1) refusal.Lost
+
+named-back : (e : Refusal) → named (number_of e) ≡ e
+named-back refusal.Streets = refl
+named-back refusal.Sites = refl
+named-back refusal.Chosen = refl
+named-back refusal.Kind = refl
+named-back refusal.Share = refl
+named-back refusal.Length = refl
+named-back refusal.Room = refl
+named-back refusal.Score = refl
+named-back refusal.Gap = refl
+named-back refusal.Number = refl
+named-back refusal.Twice = refl
+named-back refusal.Short = refl
+named-back refusal.Mark = refl
+named-back refusal.Turn = refl
+named-back refusal.Long = refl
+named-back refusal.Behind = refl
+named-back refusal.Range = refl
+named-back refusal.Usage = refl
+named-back refusal.Claim = refl
+named-back refusal.Again = refl
+named-back refusal.Load = refl
+named-back refusal.Kilograms = refl
+named-back refusal.Litres = refl
+named-back refusal.Weight = refl
+named-back refusal.Lost = refl
+
+pub number-fixes : (d e : Refusal) → number_of d ≡ number_of e → d ≡ e
+number-fixes d e q = sym (named-back d) ∙ ap named q ∙ named-back e
 
 -- a chain whose first try refuses, and one whose first try accepts
 pub or-refused : (e : Refusal) (a b : ℕ) → number_of e ≡ a → a or_else b ≡ number_of e

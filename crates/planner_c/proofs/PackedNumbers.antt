@@ -4,7 +4,8 @@ use mathlib.Core.Path.{◌≡◌, refl, ◌∙◌}
 use Prim.Native.Nat.{ℕ, zero, suc, ◌*◌}
 use lib.Dec.{eqb}
 use Rattle.counting.specs.Words.{◌when◌}
-use Rattle.call_answers.specs.declared.Answer.{Answer}
+use Rattle.std.specs.Prelude.{Result}
+use Rattle.call_answers.specs.declared.Refusal.{Refusal}
 use Rattle.call_answers.specs.Answers.{number, total, Told}
 use Rattle.planner_c.specs.Packed.{packed}
 
@@ -20,5 +21,5 @@ packed-total zero t = refl
 packed-total (suc x) t = refl
 
 -- so an answer to a call whose first refusal is x and whose total is t packs as these two
-pub packed-told : (r x t : ℕ) (answer : Answer) → r ≡ packed (number answer) (total answer) → Told answer x t → r ≡ packed x t
+pub packed-told : (r x t : ℕ) (answer : Result ℕ Refusal) → r ≡ packed (number answer) (total answer) → Told answer x t → r ≡ packed x t
 packed-told r x t answer e a = (rw (a.right-number, a.right-total) at e) ∙ packed-total x t

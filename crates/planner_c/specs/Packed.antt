@@ -1,14 +1,11 @@
 -- How a call's promise crosses to another language: its answer as one number, and the reader's sizes and form through numbers that the caller lends.
 -- Assumes nothing.
-use Rattle.std.specs.Prelude.{ℕ, zero, suc, ◌*◌, ◌≡◌, Bool, not, cond, List, eqb}
+use Rattle.std.specs.Prelude.{ℕ, zero, suc, ◌*◌, ◌≡◌, ⊤, Bool, not, cond, List, Result, eqb}
 use Rattle.survey_file.specs.Decode.{form_in, streets_in, sites_in, chosen_in, kind_in}
 use Rattle.refusals.specs.Inputs.{ReadInput}
 use Rattle.refusals.specs.Refusals.{read_refusal}
-use Rattle.survey_calls.specs.declared.Checked.{Checked}
-use Rattle.call_answers.specs.declared.Answer.{Answer}
+use Rattle.call_answers.specs.declared.Refusal.{Refusal}
 use Rattle.call_answers.specs.Answers.{number, total}
-use Rattle.survey_calls.specs.Calls.{checked_number}
-use Rattle.file_calls.specs.Answers.{read_number}
 use Rattle.file_calls.specs.Calls.{FileRead}
 
 -- the library's version: the year and the number of the last request that it meets
@@ -27,10 +24,10 @@ pub record Packs {A : Type 0} (number total : A → ℕ) (P : A → Type 0) (r :
   pub holds : P answer
 
 -- a check's answer, and one with a total
-abbrev pub PacksChecked : (Checked → Type 0) → ℕ → Type 0
-PacksChecked = Packs checked_number (λ r. 0)
+abbrev pub PacksChecked : (Result ⊤ Refusal → Type 0) → ℕ → Type 0
+PacksChecked = Packs number (λ r. 0)
 
-abbrev pub PacksAnswer : (Answer → Type 0) → ℕ → Type 0
+abbrev pub PacksAnswer : (Result ℕ Refusal → Type 0) → ℕ → Type 0
 PacksAnswer = Packs number total
 
 -- the form of a file as a number: 0 is the old one, and any other the new one; the reader gives 0 or 1
@@ -60,6 +57,6 @@ sizes_after (suc x) file old = old
 -- the reader's promise with these
 pub record FileReadInto (i : ReadInput) (scores weights rows : List ℕ) (before after : Sizes) (r : ℕ) : Type 0 where
   -- the call's own promise; the total is 0
-  pub read : Packs read_number (λ r. 0) (FileRead i scores weights rows) r
+  pub read : Packs number (λ r. 0) (FileRead i scores weights rows) r
   -- the sizes, the kind and the form
   pub sizes : after ≡ sizes_after (read_refusal i) i.file before

@@ -5,41 +5,44 @@
 
 ghost use Rattle.std.specs.Prelude.{◌≡◌, length};
 ghost use Rattle.survey.specs.Rows.{ranked_part};
-ghost use Rattle.refusals.specs.Inputs.{survey_lent, row_lent, list_lent, division_lent, plan_lent, hand_lent, write_lent, read_lent, convert_lent};
-ghost use Rattle.call_answers.specs.Answers.{number, total};
-ghost use Rattle.survey_calls.specs.Calls.{checked_number, SurveyChecked, RowScored};
+ghost use Rattle.survey.specs.Town.{town_of};
+ghost use Rattle.loads.specs.Loads.{loads_of};
+ghost use Rattle.survey_file.specs.Filed.{filed_of};
+ghost use Rattle.refusals.specs.Inputs.{survey_of, row_input_of, list_input_of, division_of, plan_of, hand_of, write_of, read_of, convert_of};
+ghost use Rattle.call_answers.specs.Answers.{number_of, number, total};
+ghost use Rattle.survey_calls.specs.Calls.{SurveyChecked, RowScored};
 ghost use Rattle.list_calls.specs.Calls.{FreeDivided, BalancedDivided, ListTotalled};
 ghost use Rattle.plan_calls.specs.Calls.{Planned, FloorGiven};
 ghost use Rattle.hand_calls.specs.Calls.{HandTested};
 ghost use Rattle.file_calls.specs.Calls.{FileWritten, FileConverted};
 ghost use Rattle.planner_c.specs.Packed.{version, packed, PacksChecked, PacksAnswer, form_of, sizes_of, FileReadInto};
 
-use planner::{Answer, Checked, Read};
+use planner::{Loads, Refusal, Town};
 
 // A refusal as one number: its own in the upper half.
-fn packed_refusal(x: u8) -> u64
-    ensures { result ≡ packed x 0 }
+fn packed_refusal(refusal: Refusal) -> u64
+    ensures { result ≡ packed (number_of refusal) 0 }
 {
-    x as u64 * 4294967296
+    refusal.number() as u64 * 4294967296
 }
 
 // A check's answer as one number.
-fn packed_check(answer: Checked) -> u64
-    ensures { result ≡ packed (checked_number answer) 0 }
+fn packed_check(answer: Result<(), Refusal>) -> u64
+    ensures { result ≡ packed (number answer) 0 }
 {
     match answer {
-        Checked::Accepted => 0,
-        Checked::Refused(x) => packed_refusal(x),
+        Ok(()) => 0,
+        Err(refusal) => packed_refusal(refusal),
     }
 }
 
 // An answer with a total as one number.
-fn packed_answer(answer: Answer) -> u64
+fn packed_answer(answer: Result<u32, Refusal>) -> u64
     ensures { result ≡ packed (number answer) (total answer) }
 {
     match answer {
-        Answer::Total(t) => t as u64,
-        Answer::Refused(x) => packed_refusal(x),
+        Ok(total) => total as u64,
+        Err(refusal) => packed_refusal(refusal),
     }
 }
 
@@ -61,9 +64,16 @@ pub extern "C" fn planner_check_survey(
     weights: &[u8],
     rows: &[u8],
 ) -> u64
-    ensures { PacksChecked (SurveyChecked (survey_lent n m k scores.now weights.now rows.now)) result }
+    ensures { PacksChecked (SurveyChecked (survey_of (town_of n m scores.now weights.now rows.now) k)) result }
 {
-    packed_check(planner::check_survey(n, m, k, scores, weights, rows))
+    let town = Town {
+        n,
+        m,
+        scores,
+        weights,
+        rows,
+    };
+    packed_check(planner::check_survey(town, k))
 }
 
 // The length of the ranked part of a row; its bytes are the caller's own. Refuses nothing.
@@ -83,7 +93,7 @@ pub extern "C" fn planner_row_score(
     row: &[u8],
     site: u8,
 ) -> u64
-    ensures { PacksAnswer (RowScored (row_lent m scores.now weight row.now site)) result }
+    ensures { PacksAnswer (RowScored (row_input_of m scores.now weight row.now site)) result }
 {
     packed_answer(planner::row_score(m, scores, weight, row, site))
 }
@@ -98,9 +108,16 @@ pub extern "C" fn planner_list_total(
     rows: &[u8],
     sites: &[u8],
 ) -> u64
-    ensures { PacksAnswer (ListTotalled (list_lent n m scores.now weights.now rows.now sites.now)) result }
+    ensures { PacksAnswer (ListTotalled (list_input_of (town_of n m scores.now weights.now rows.now) sites.now)) result }
 {
-    packed_answer(planner::list_total(n, m, scores, weights, rows, sites))
+    let town = Town {
+        n,
+        m,
+        scores,
+        weights,
+        rows,
+    };
+    packed_answer(planner::list_total(town, sites))
 }
 
 // The free division over a list of sites, into a buffer of n bytes.
@@ -114,9 +131,16 @@ pub extern "C" fn planner_free_division(
     sites: &[u8],
     division: &mut [u8],
 ) -> u64
-    ensures { PacksAnswer (FreeDivided (division_lent n m scores.now weights.now rows.now sites.now division.old) division.new) result }
+    ensures { PacksAnswer (FreeDivided (division_of (town_of n m scores.now weights.now rows.now) sites.now division.old) division.new) result }
 {
-    packed_answer(planner::free_division(n, m, scores, weights, rows, sites, division))
+    let town = Town {
+        n,
+        m,
+        scores,
+        weights,
+        rows,
+    };
+    packed_answer(planner::free_division(town, sites, division))
 }
 
 // The best balanced division over a list of sites, into a buffer of n bytes: each site gets its share, the first sites of the list one street more.
@@ -130,9 +154,16 @@ pub extern "C" fn planner_balanced_division(
     sites: &[u8],
     division: &mut [u8],
 ) -> u64
-    ensures { PacksAnswer (BalancedDivided (division_lent n m scores.now weights.now rows.now sites.now division.old) division.new) result }
+    ensures { PacksAnswer (BalancedDivided (division_of (town_of n m scores.now weights.now rows.now) sites.now division.old) division.new) result }
 {
-    packed_answer(planner::balanced_division(n, m, scores, weights, rows, sites, division))
+    let town = Town {
+        n,
+        m,
+        scores,
+        weights,
+        rows,
+    };
+    packed_answer(planner::balanced_division(town, sites, division))
 }
 
 // The plan of k sites, free for kind 0 and balanced for kind 1, into buffers of n and of k bytes. In a balanced one every site gets its share, the
@@ -149,9 +180,16 @@ pub extern "C" fn planner_plan(
     division: &mut [u8],
     chosen: &mut [u8],
 ) -> u64
-    ensures { PacksAnswer (Planned (plan_lent n m k kind scores.now weights.now rows.now division.old chosen.old) division.new chosen.new) result }
+    ensures { PacksAnswer (Planned (plan_of (town_of n m scores.now weights.now rows.now) k kind division.old chosen.old) division.new chosen.new) result }
 {
-    packed_answer(planner::plan(n, m, k, kind, scores, weights, rows, division, chosen))
+    let town = Town {
+        n,
+        m,
+        scores,
+        weights,
+        rows,
+    };
+    packed_answer(planner::plan(town, k, kind, division, chosen))
 }
 
 // The floor: what every balanced plan of k sites totals at least.
@@ -164,9 +202,16 @@ pub extern "C" fn planner_floor(
     weights: &[u8],
     rows: &[u8],
 ) -> u64
-    ensures { PacksAnswer (FloorGiven (survey_lent n m k scores.now weights.now rows.now)) result }
+    ensures { PacksAnswer (FloorGiven (survey_of (town_of n m scores.now weights.now rows.now) k)) result }
 {
-    packed_answer(planner::floor(n, m, k, scores, weights, rows))
+    let town = Town {
+        n,
+        m,
+        scores,
+        weights,
+        rows,
+    };
+    packed_answer(planner::floor(town, k))
 }
 
 // Tests a hand-made plan, free for kind 0 and balanced for kind 1: the site of each street, in a free one 0 for none, and the total that is claimed
@@ -188,23 +233,23 @@ pub extern "C" fn planner_hand_plan(
     litre_limits: &[u32],
 ) -> u64
     ensures { PacksAnswer
-        (HandTested (hand_lent n m k kind scores.now weights.now rows.now division.now claimed kilograms.now litres.now kilogram_limits.now litre_limits.now)) result }
+        (HandTested (hand_of (town_of n m scores.now weights.now rows.now) k kind division.now claimed
+        (loads_of kilograms.now litres.now kilogram_limits.now litre_limits.now))) result }
 {
-    packed_answer(planner::hand_plan(
+    let town = Town {
         n,
         m,
-        k,
-        kind,
         scores,
         weights,
         rows,
-        division,
-        claimed,
+    };
+    let loads = Loads {
         kilograms,
         litres,
         kilogram_limits,
         litre_limits,
-    ))
+    };
+    packed_answer(planner::hand_plan(town, k, kind, division, claimed, loads))
 }
 
 // Writes the survey file into a buffer of any length, in the old form where `form` is 0 and else in the new one; the total is the file's length.
@@ -220,9 +265,16 @@ pub extern "C" fn planner_write_file(
     rows: &[u8],
     file: &mut [u8],
 ) -> u64
-    ensures { PacksAnswer (FileWritten (write_lent n m k kind (form_of form) scores.now weights.now rows.now file.old) file.new) result }
+    ensures { PacksAnswer (FileWritten (write_of (filed_of (form_of form) (town_of n m scores.now weights.now rows.now) k kind) file.old) file.new) result }
 {
-    packed_answer(planner::write_file(n, m, k, kind, form != 0, scores, weights, rows, file))
+    let town = Town {
+        n,
+        m,
+        scores,
+        weights,
+        rows,
+    };
+    packed_answer(planner::write_file(town, k, kind, form != 0, file))
 }
 
 // Reads a survey file of any length into a buffer of 64 scores, one of 400 weights and one of 25,600 row bytes; its sizes, kind and form, 0 the old one
@@ -239,33 +291,26 @@ pub extern "C" fn planner_read_file(
     weights: &mut [u8],
     rows: &mut [u8],
 ) -> u64
-    ensures { FileReadInto (read_lent file.now scores.old weights.old rows.old) scores.new weights.new rows.new (sizes_of n.old m.old k.old kind.old form.old)
+    ensures { FileReadInto (read_of file.now scores.old weights.old rows.old) scores.new weights.new rows.new (sizes_of n.old m.old k.old kind.old form.old)
         (sizes_of n.new m.new k.new kind.new form.new) result }
 {
-    let answer = planner::read_file(file, scores, weights, rows);
-    match answer {
-        Read::Refused(x) => packed_refusal(x),
-        Read::Survey {
-            n: streets,
-            m: sites,
-            k: chosen,
-            kind: sort,
-            new_form,
-        } => {
-            *n = streets;
-            *m = sites;
-            *k = chosen;
-            *kind = sort;
-            *form = new_form as usize;
+    match planner::read_file(file, scores, weights, rows) {
+        Ok(sizes) => {
+            *n = sizes.n;
+            *m = sizes.m;
+            *k = sizes.k;
+            *kind = sizes.kind;
+            *form = sizes.new_form as usize;
             0
         }
+        Err(reason) => packed_refusal(reason),
     }
 }
 
 // Puts a survey file into the old form where `form` is 0 and else into the new one, in a buffer of any length; the total is the length there.
 #[unsafe(no_mangle)]
 pub extern "C" fn planner_convert_file(file: &[u8], form: usize, buffer: &mut [u8]) -> u64
-    ensures { PacksAnswer (FileConverted (convert_lent file.now (form_of form) buffer.old) buffer.new) result }
+    ensures { PacksAnswer (FileConverted (convert_of file.now (form_of form) buffer.old) buffer.new) result }
 {
     packed_answer(planner::convert_file(file, form != 0, buffer))
 }

@@ -17,12 +17,13 @@ use Rattle.survey_file.specs.Decode.{file_refusal, chosen_in, kind_in, town_in}
 use Rattle.survey_file.proofs.Tries.{as-due}
 use Rattle.refusals.specs.Inputs.{ReadInput}
 use Rattle.refusals.specs.Refusals.{read_refusal}
-use Rattle.file_refusals.proofs.SizesGiven.{GivenSizes}
-use Rattle.file_calls.specs.declared.Read.{Read}
-use Rattle.file_calls.specs.declared.Read.TheVariants as read
-use Rattle.file_calls.specs.Answers.{read_accepts}
 use Rattle.file_calls.specs.Calls.{FileRead}
-use Rattle.file_calls.proofs.ReadAnswers.{survey-tells, refusal-tells}
+use Rattle.std.specs.Prelude.{Result, Ok, Err}
+use Rattle.call_answers.specs.declared.Refusal.{Refusal}
+use Rattle.call_answers.specs.Answers.{number_of, accepts}
+use Rattle.call_answers.proofs.Refused.{numbered}
+use Rattle.survey_file.specs.declared.Sizes.{Sizes}
+use Rattle.survey_file.specs.Sizes.{sizes_in}
 use Rattle.listing.specs.Listing.{refused_line}
 use Rattle.printing.specs.Texts.{unless_refused, plan_text, printed}
 use Rattle.printing.specs.Asked.{SurveyAsked}
@@ -46,7 +47,7 @@ pub record SurveyRead (file rows scores weights : List ℕ) (n m k kind : ℕ) :
   pub asked : SurveyAsked (town_of n m (take m scores) (take n weights) (take (n * m) rows)) k kind
   pub text : plan_text (town_of n m (take m scores) (take n weights) (take (n * m) rows)) k kind ≡ printed file
 
-module _ {i : ReadInput} {scores weights rows : List ℕ} {r : Read} (given : FileRead i scores weights rows r) (long : length i.rows ≡ most_rows)
+module _ {i : ReadInput} {scores weights rows : List ℕ} {r : Result Sizes Refusal} (given : FileRead i scores weights rows r) (long : length i.rows ≡ most_rows)
     (wide : length i.scores ≡ most_sites) (many : length i.weights ≡ most_streets) where
   -- buffers of the right lengths refuse nothing
   file-decides : read_refusal i ≡ file_refusal i.file
@@ -56,47 +57,58 @@ module _ {i : ReadInput} {scores weights rows : List ℕ} {r : Read} (given : Fi
       (own-pass refusal (length_refusal (length i.scores) most_sites) _ (as-due 6 (length i.scores) most_sites wide)
       (own-pass refusal (length_refusal (length i.weights) most_streets) refusal (as-due 6 (length i.weights) most_streets many) refl)))
 
-  pub refused-printed : {x : ℕ} → r ≡ read.Refused x → refused_line x ≡ printed i.file
+  pub refused-printed : {e : Refusal} → r ≡ Err e → refused_line (number_of e) ≡ printed i.file
   unfolding printed
-  refused-printed {x} e =
-      let (number, some) = refusal-tells given e in
-      refused-text x (file_refusal i.file) _ (number ∙ file-decides) (λ z. some (file-decides ∙ z))
+  refused-printed {e} is =
+      let number : number_of e ≡ file_refusal i.file = rw is at given.answer.right-number ∙ file-decides in
+      refused-text (number_of e) (file_refusal i.file) _ number (λ z. numbered e (number ∙ z))
 
-  module _ {n m k kind : ℕ} {new_form : Bool} (answer : r ≡ read.Survey n m k kind new_form) where
-    same : GivenSizes read_refusal i i.file n m k kind new_form
-    same = survey-tells given answer
+  module _ {sizes : Sizes} (answer : r ≡ Ok sizes) where
+    -- nothing is refused
+    quiet : read_refusal i ≡ 0
+    quiet = sym (rw answer at given.answer.right-number)
+
+    -- the sizes are the file's
+    same : sizes ≡ sizes_in i.file
+    same = rw answer at given.answer.right-sizes
+
+    abbrev n : ℕ
+    n = sizes.n
+
+    abbrev m : ℕ
+    m = sizes.m
 
     ok : survey_refusal (town_in i.file) (chosen_in i.file) (kind_refusal (kind_in i.file)) ≡ 0
-    ok = (given.back (ap read_accepts answer)).accepted
+    ok = (given.back (ap accepts answer)).accepted
 
     good : Accepted (town_in i.file)
     good = accepted (town_in i.file) (chosen_in i.file) _ ok
 
     rows_are : take (n * m) rows ≡ (town_in i.file).rows
     rows_are =
-        let size : length (town_in i.file).rows ≡ n * m = rw (same.streets, same.sites) good.rows_fit in
-        front_read (town_in i.file).rows i.rows (n * m) _ given.row-bytes same.quiet size
+        let size : length (town_in i.file).rows ≡ n * m = rw same good.rows_fit in
+        front_read (town_in i.file).rows i.rows (n * m) _ given.row-bytes quiet size
 
     scores-are : take m scores ≡ (town_in i.file).scores
     scores-are =
-        let size : length (town_in i.file).scores ≡ m = rw same.sites good.scores-fit in
-        front_read (town_in i.file).scores i.scores m _ given.score-numbers same.quiet size
+        let size : length (town_in i.file).scores ≡ m = rw same good.scores-fit in
+        front_read (town_in i.file).scores i.scores m _ given.score-numbers quiet size
 
     weights-are : take n weights ≡ (town_in i.file).weights
     weights-are =
-        let size : length (town_in i.file).weights ≡ n = rw same.streets good.weights-fit in
-        front_read (town_in i.file).weights i.weights n _ given.weight-bytes same.quiet size
+        let size : length (town_in i.file).weights ≡ n = rw same good.weights-fit in
+        front_read (town_in i.file).weights i.weights n _ given.weight-bytes quiet size
 
     -- what holds of the file's survey holds of it
     as_read : (P : Town → ℕ → ℕ → Type 0) → P (town_in i.file) (chosen_in i.file) (kind_in i.file)
-        → P (town_of n m (take m scores) (take n weights) (take (n * m) rows)) k kind
-    as_read P h = rw (scores-are, weights-are, rows_are, same.streets, same.sites, same.chosen, same.of-kind) h
+        → P (town_of n m (take m scores) (take n weights) (take (n * m) rows)) sizes.k sizes.kind
+    as_read P h = rw (scores-are, weights-are, rows_are, same) h
 
     text-is : plan_text (town_in i.file) (chosen_in i.file) (kind_in i.file) ≡ printed i.file
     unfolding printed
-    text-is = none-refused (file_refusal i.file) _ (sym file-decides ∙ same.quiet)
+    text-is = none-refused (file_refusal i.file) _ (sym file-decides ∙ quiet)
 
-    pub survey-read : SurveyRead i.file rows scores weights n m k kind
+    pub survey-read : SurveyRead i.file rows scores weights n m sizes.k sizes.kind
     survey-read =
         record {
           asked = as_read SurveyAsked (record { sound = ok });

@@ -18,8 +18,8 @@ use Rattle.plans.specs.Plans.{plan_of_kind}
 use Rattle.refusals.specs.Inputs.{PlanInput}
 use Rattle.refusals.specs.Refusals.{buffers_refusal, plan_kind_refusal, plan_refusal}
 use Rattle.refusals.proofs.Listed.{called}
-use Rattle.call_answers.specs.declared.Answer.{Answer}
-use Rattle.call_answers.specs.declared.Answer.TheVariants as answer
+use Rattle.std.specs.Prelude.{Result, Ok, Err}
+use Rattle.call_answers.specs.declared.Refusal.{Refusal}
 use Rattle.call_answers.specs.Answers.{Told}
 use Rattle.plan_calls.specs.Calls.{Planned}
 use Rattle.listing.specs.Listing.{listing, refused_line}
@@ -27,16 +27,16 @@ use Rattle.printing.specs.Texts.{plan_listing, unless_refused, answer_text, plan
 use Rattle.printing.specs.Asked.{SurveyAsked, PlanAsked, ListingAsked}
 
 -- an answer's text is that of its first refusal x, and else that of its total and of what is new in the buffers
-answered-text : (r : Answer) (x : ℕ) {reported : ℕ} (m : ℕ) (rows new-sites new-division old-sites old-division : List ℕ) {sites division : List ℕ}
+answered-text : (r : Result ℕ Refusal) (x : ℕ) {reported : ℕ} (m : ℕ) (rows new-sites new-division old-sites old-division : List ℕ) {sites division : List ℕ}
     → Told r x reported → sites ≡ after x new-sites old-sites → division ≡ after x new-division old-division
     → answer_text r m rows sites division ≡ unless_refused x (listing m rows reported new-sites new-division)
 unfolding ◌when◌
-answered-text (answer.Total y) zero {reported} m rows new-sites new-division old-sites old-division told s d =
+answered-text (Ok y) zero {reported} m rows new-sites new-division old-sites old-division told s d =
     let same : y ≡ reported = told.right-total in
     rw (same, s, d)
-answered-text (answer.Total y) (suc x) m rows new-sites new-division old-sites old-division told s d = absurd (suc-ne-zero x (sym told.right-number))
-answered-text (answer.Refused y) zero m rows new-sites new-division old-sites old-division told s d = absurd (true≢false (sym told.right-case))
-answered-text (answer.Refused y) (suc x) m rows new-sites new-division old-sites old-division told s d =
+answered-text (Ok y) (suc x) m rows new-sites new-division old-sites old-division told s d = absurd (suc-ne-zero x (sym told.right-number))
+answered-text (Err y) zero m rows new-sites new-division old-sites old-division told s d = absurd (true≢false (sym told.right-case))
+answered-text (Err y) (suc x) m rows new-sites new-division old-sites old-division told s d =
     ap (λ (z : ℕ). refused_line z) told.right-number
 
 -- tries behind a number that refuse nothing
@@ -84,7 +84,7 @@ module _ {i : PlanInput} (asked : PlanAsked i) where
       survey-own i.town i.k _ _ asked.survey.sound ∙ ap (λ (y : ℕ). tries or_else y) buffers-none ∙ or-none tries
 
   -- what the call gave is the text
-  pub plan-text : {division chosen : List ℕ} {r : Answer} → Planned i division chosen r
+  pub plan-text : {division chosen : List ℕ} {r : Result ℕ Refusal} → Planned i division chosen r
       → answer_text r i.town.m i.town.rows chosen division ≡ plan_text i.town i.k i.kind
   unfolding plan_text
   plan-text {r = r} plan =

@@ -1,12 +1,12 @@
 -- What the plan program prints for a survey file: the listing of the file's plan, or the line of the first refusal.
 -- Assumes nothing.
-use Rattle.std.specs.Prelude.{ℕ, zero, suc, List}
+use Rattle.std.specs.Prelude.{ℕ, zero, suc, List, Result, Ok, Err}
 use Rattle.survey.specs.Town.{Town}
 use Rattle.survey_file.specs.Decode.{file_refusal, town_in, chosen_in, kind_in}
 use Rattle.plans.specs.Plans.{Plan, plan_of_kind}
 use Rattle.refusals.specs.Refusals.{plan_kind_refusal}
-use Rattle.call_answers.specs.declared.Answer.{Answer}
-use Rattle.call_answers.specs.declared.Answer.TheVariants as answer
+use Rattle.call_answers.specs.declared.Refusal.{Refusal}
+use Rattle.call_answers.specs.Answers.{number_of}
 use Rattle.listing.specs.Listing.{listing, refused_line}
 
 -- the listing of a plan of a town
@@ -19,9 +19,9 @@ unless_refused zero text = text
 unless_refused (suc x) text = refused_line (suc x)
 
 -- the text of a plan's answer, with the sites and the division that came with it
-abbrev pub answer_text : Answer → ℕ → List ℕ → List ℕ → List ℕ → List ℕ
-answer_text (answer.Total total) m rows sites division = listing m rows total sites division
-answer_text (answer.Refused x) m rows sites division = refused_line x
+abbrev pub answer_text : Result ℕ Refusal → ℕ → List ℕ → List ℕ → List ℕ → List ℕ
+answer_text (Ok total) m rows sites division = listing m rows total sites division
+answer_text (Err x) m rows sites division = refused_line (number_of x)
 
 -- the text of an accepted survey: the listing of the plan of its kind, or the line of what that kind is refused for
 unfoldable pub plan_text : Town → ℕ → ℕ → List ℕ

@@ -3,14 +3,15 @@
 
 ghost use Rattle.std.specs.Prelude.{◌≡◌, ◌≤◌, length};
 ghost use Rattle.counting.specs.Buffers.{Written};
-ghost use Rattle.survey.specs.Town.{town_of};
+ghost use Rattle.call_answers.specs.Answers.{number_of};
+ghost use Rattle.survey.specs.Town.{lent};
 ghost use Rattle.survey_file.specs.Encode.{most_file};
 ghost use Rattle.refusals.specs.Inputs.{plan_of};
-ghost use Rattle.listing.specs.Listing.{most_text};
+ghost use Rattle.listing.specs.Listing.{most_text, refused_line};
 ghost use Rattle.printing.specs.Texts.{answer_text, plan_text, printed};
-ghost use Rattle.printing.specs.Asked.{PlanAsked, ListingAsked, survey_held, town_held, SurveyHeld};
+ghost use Rattle.printing.specs.Asked.{PlanAsked, ListingAsked, town_held, SurveyHeld};
 
-use planner::{Answer, Read};
+use planner::{Refusal, Sizes, Town};
 use survey::Survey;
 
 // A buffer of so many bytes has room for every text: 400 streets have lines of at most 19 bytes each.
@@ -75,14 +76,7 @@ fn print_survey(survey: &Survey, out: &mut [u8]) -> usize
         weights: &survey.weights[..n],
         rows: &survey.rows[..n * m],
     };
-    print_plan(
-        town,
-        k,
-        kind,
-        &mut division[..n],
-        &mut chosen[..k],
-        out,
-    )
+    print_plan(town, k, kind, &mut division[..n], &mut chosen[..k], out)
 }
 
 // Writes what is printed for a file over the front of a buffer that has room for every text, and gives back how many bytes that is. The survey is

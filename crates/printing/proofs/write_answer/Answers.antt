@@ -1,9 +1,7 @@
 use native.Mathlib.Omega.{arith}
 use native.Mathlib.Nat.{le_trans}
 use Prim.Native.Nat.{◌<◌}
-use Rattle.listing.specs.Listing.{refused_line}
-use Rattle.listing.proofs.Rooms.{start-room}
-use Rattle.listing.proofs.Sizes.{refused-fits, listing-fits}
+use Rattle.listing.proofs.Sizes.{listing-fits}
 use Rattle.printing.proofs.write_answer.Goals as goal
 
 pub write_listing-requires : goal.write_listing-requires
@@ -13,12 +11,7 @@ write_listing-requires c =
     let a = c.args in
     let p = c.requires.listing_asked in
     let out = c.requires.most_text_in_bounds in
-    let t = c.in-Total.total in
+    let t = c.in-Ok.total in
     let small : t < 4294967296 = omega arith in
-    let fits = listing-fits a.m t a.rows.now a.sites.now a.division.now p.few-sites small p.few-chosen in
+    let fits = listing-fits a.town.m t a.town.rows.now a.sites.now a.division.now p.few-sites small p.few-chosen in
     record { m_in_bounds = p.rows-there; division_in_bounds = le_trans (fits (sites-low) p.few-streets (division-low)) out }
-
-pub write_line-requires : goal.write_line-requires
-write_line-requires c =
-    let x = c.in-Refused.x in
-    start-room _ (refused_line x) (le_trans (refused-fits x (omega arith)) c.requires.most_text_in_bounds)
