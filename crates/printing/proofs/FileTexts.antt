@@ -4,7 +4,7 @@ use mathlib.Core.Path.{◌≡◌, refl, sym, ap, ◌∙◌}
 use mathlib.Core.Bool.{Bool}
 use mathlib.Core.List.{List}
 use Prim.Native.Nat.{ℕ, zero, suc, ◌*◌}
-use lib.ListN.{length, take}
+use lib.ListN.{length, take, replicate, length-replicate}
 use lib.Seq.{take_at}
 use Rattle.counting.specs.Bounds.{most_streets, most_sites, most_rows}
 use Rattle.counting.specs.Buffers.{after, laid}
@@ -27,6 +27,15 @@ use Rattle.survey_file.specs.Sizes.{sizes_in}
 use Rattle.listing.specs.Listing.{refused_line}
 use Rattle.printing.specs.Texts.{unless_refused, plan_text, printed}
 use Rattle.printing.specs.Asked.{SurveyAsked}
+
+-- the lengths of the buffers of a survey that holds nothing yet
+pub blank-lengths : {scores weights rows : List ℕ} → (scores ≡ replicate most_sites 0) × (weights ≡ replicate most_streets 0) × (rows ≡ replicate most_rows 0)
+    → (length scores ≡ most_sites) × (length weights ≡ most_streets) × (length rows ≡ most_rows)
+blank-lengths (s, w, r) = (
+  ap length s ∙ length-replicate {A = ℕ} most_sites 0,
+  ap length w ∙ length-replicate {A = ℕ} most_streets 0,
+  ap length r ∙ length-replicate {A = ℕ} most_rows 0,
+)
 
 -- a number that is refused, and not 0, is printed
 refused-text : (x y : ℕ) (text : List ℕ) → x ≡ y → (y ≡ 0 → ⊥) → refused_line x ≡ unless_refused y text
