@@ -1,35 +1,28 @@
 // Cases of files that are written, read and converted.
 use crate::{input, say};
-use planner::Read;
-use std::io::{self, Write};
+use planner::{Refusal, Sizes, Town};
+use std::io::{self, Read, Write};
 
 // A file that is written, and its buffer.
 fn written(
     out: &mut impl Write,
-    n: usize,
-    m: usize,
+    town: Town<'_>,
     k: usize,
     kind: usize,
     new_form: bool,
-    scores: &[u16],
-    weights: &[u8],
-    rows: &[u8],
     file: &mut [u8],
 ) -> io::Result<()> {
-    say::answer(
-        out,
-        planner::write_file(n, m, k, kind, new_form, scores, weights, rows, file),
-    )?;
+    say::answer(out, planner::write_file(town, k, kind, new_form, file))?;
     say::buffer(out, b" file", file)
 }
 
 // The form of a file: 0 for the old one, any other number for the new one.
-fn form(reader: &mut impl io::Read) -> io::Result<bool> {
+fn form(reader: &mut impl Read) -> io::Result<bool> {
     Ok(input::number(reader)? != 0)
 }
 
 // The form of the file of a case: the next number, or where the case has no weights the old form.
-fn form_of(reader: &mut impl io::Read, weighed: bool) -> io::Result<bool> {
+fn form_of(reader: &mut impl Read, weighed: bool) -> io::Result<bool> {
     if weighed {
         return form(reader);
     }
@@ -37,11 +30,7 @@ fn form_of(reader: &mut impl io::Read, weighed: bool) -> io::Result<bool> {
 }
 
 // Command 10: the streets, the sites, the chosen, the kind; with weights, the form; the scores; the rows; the file's buffer.
-pub fn write_case(
-    reader: &mut impl io::Read,
-    out: &mut impl Write,
-    weighed: bool,
-) -> io::Result<()> {
+pub fn write_case(reader: &mut impl Read, out: &mut impl Write, weighed: bool) -> io::Result<()> {
     let n = input::number(reader)?;
     let m = input::number(reader)?;
     let k = input::number(reader)?;
@@ -59,18 +48,14 @@ pub fn write_case(
     let r_len = r.len;
     let mut file = f.buffer;
     let f_len = f.len;
-    written(
-        out,
+    let town = Town {
         n,
         m,
-        k,
-        kind,
-        new_form,
-        &scores[..s_len],
-        &weights[..w_len],
-        &rows[..r_len],
-        &mut file[..f_len],
-    )
+        scores: &scores[..s_len],
+        weights: &weights[..w_len],
+        rows: &rows[..r_len],
+    };
+    written(out, town, k, kind, new_form, &mut file[..f_len])
 }
 
 // The form that was read.
@@ -82,15 +67,17 @@ fn say_form(out: &mut impl Write, new_form: bool) -> io::Result<()> {
 }
 
 // The reader's answer.
-fn say_read(out: &mut impl Write, answer: Read, weighed: bool) -> io::Result<()> {
+fn say_read(out: &mut impl Write, answer: Result<Sizes, Refusal>, weighed: bool) -> io::Result<()> {
     match answer {
-        Read::Survey {
-            n,
-            m,
-            k,
-            kind,
-            new_form,
-        } => {
+        Ok(
+            Sizes {
+                n,
+                m,
+                k,
+                kind,
+                new_form,
+            },
+        ) => {
             say::number(out, b" streets ", n as u64)?;
             say::number(out, b" sites ", m as u64)?;
             say::number(out, b" chosen ", k as u64)?;
@@ -100,7 +87,7 @@ fn say_read(out: &mut impl Write, answer: Read, weighed: bool) -> io::Result<()>
             }
             Ok(())
         }
-        Read::Refused(x) => say::number(out, b" refused ", x as u64),
+        Err(refusal) => say::number(out, b" refused ", u64::from(refusal.number())),
     }
 }
 
@@ -134,11 +121,7 @@ fn read_in(
 }
 
 // Command 11: the file; the rows' buffer; the scores' buffer; with weights, their buffer, which else has the right length and is not printed.
-pub fn read_case(
-    reader: &mut impl io::Read,
-    out: &mut impl Write,
-    weighed: bool,
-) -> io::Result<()> {
+pub fn read_case(reader: &mut impl Read, out: &mut impl Write, weighed: bool) -> io::Result<()> {
     let f = input::bytes_list(reader)?;
     let r = input::bytes_list(reader)?;
     let s = input::scores_list(reader)?;
@@ -168,7 +151,7 @@ fn converted(out: &mut impl Write, file: &[u8], wanted: bool, buffer: &mut [u8])
 }
 
 // Command 18: the file; the form that is wanted; the buffer.
-pub fn convert_case(reader: &mut impl io::Read, out: &mut impl Write) -> io::Result<()> {
+pub fn convert_case(reader: &mut impl Read, out: &mut impl Write) -> io::Result<()> {
     let f = input::bytes_list(reader)?;
     let wanted = form(reader)?;
     let b = input::bytes_list(reader)?;

@@ -4,7 +4,7 @@ ghost use Rattle.cases.specs.Counts.{IsPrefixLen};
 
 use crate::input::Loads;
 use crate::{input, say};
-use planner::Answer;
+use planner::{Refusal, Town};
 use std::io::{self, Read, Write};
 
 // the greatest limit
@@ -24,20 +24,16 @@ fn loads(reader: &mut impl Read, loaded: bool, each: u32, len: usize) -> io::Res
 fn loaded_hand(
     reader: &mut impl Read,
     loaded: bool,
-    n: usize,
-    m: usize,
+    town: Town<'_>,
     k: usize,
     kind: usize,
-    scores: &[u16],
-    weights: &[u8],
-    rows: &[u8],
     division: &[u8],
-) -> io::Result<Answer> {
+) -> io::Result<Result<u32, Refusal>> {
     let claimed = input::below(reader, input::TOTALS_BOUND)?;
-    let a = loads(reader, loaded, 0, n)?;
-    let b = loads(reader, loaded, 0, n)?;
-    let c = loads(reader, loaded, MOST, m)?;
-    let d = loads(reader, loaded, MOST, m)?;
+    let a = loads(reader, loaded, 0, town.n)?;
+    let b = loads(reader, loaded, 0, town.n)?;
+    let c = loads(reader, loaded, MOST, town.m)?;
+    let d = loads(reader, loaded, MOST, town.m)?;
     let kilograms = a.buffer;
     let a_len = a.len;
     let litres = b.buffer;
@@ -46,21 +42,13 @@ fn loaded_hand(
     let c_len = c.len;
     let litre_limits = d.buffer;
     let d_len = d.len;
-    Ok(planner::hand_plan(
-        n,
-        m,
-        k,
-        kind,
-        scores,
-        weights,
-        rows,
-        division,
-        claimed as u32,
-        &kilograms[..a_len],
-        &litres[..b_len],
-        &kilogram_limits[..c_len],
-        &litre_limits[..d_len],
-    ))
+    let loads = planner::Loads {
+        kilograms: &kilograms[..a_len],
+        litres: &litres[..b_len],
+        kilogram_limits: &kilogram_limits[..c_len],
+        litre_limits: &litre_limits[..d_len],
+    };
+    Ok(planner::hand_plan(town, k, kind, division, claimed as u32, loads))
 }
 
 // Commands 12, free, and 13, balanced: the streets, the sites, the chosen; the scores; the rows; the division; the claimed total. Commands 14 and 15
@@ -87,17 +75,13 @@ pub fn hand_case(
     let r_len = r.len;
     let division = d.buffer;
     let d_len = d.len;
-    let given = loaded_hand(
-        reader,
-        loaded,
+    let town = Town {
         n,
         m,
-        k,
-        kind,
-        &scores[..s_len],
-        &weights[..w_len],
-        &rows[..r_len],
-        &division[..d_len],
-    )?;
+        scores: &scores[..s_len],
+        weights: &weights[..w_len],
+        rows: &rows[..r_len],
+    };
+    let given = loaded_hand(reader, loaded, town, k, kind, &division[..d_len])?;
     say::answer(out, given)
 }

@@ -3,6 +3,7 @@
 // the weight 1. No case has a list that is longer than its buffer.
 #![tactic(auto)]
 
+use planner::Town;
 use std::io::{self, Read, Write};
 
 mod files;
@@ -32,10 +33,14 @@ fn check_case(reader: &mut impl Read, out: &mut impl Write, weighed: bool) -> io
     let w_len = w.len;
     let rows = r.buffer;
     let r_len = r.len;
-    say::checked(
-        out,
-        planner::check_survey(n, m, k, &scores[..s_len], &weights[..w_len], &rows[..r_len]),
-    )
+    let town = Town {
+        n,
+        m,
+        scores: &scores[..s_len],
+        weights: &weights[..w_len],
+        rows: &rows[..r_len],
+    };
+    say::checked(out, planner::check_survey(town, k))
 }
 
 // The weight of one street: the next number, or where the case has none 1.

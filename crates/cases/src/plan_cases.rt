@@ -1,6 +1,6 @@
 // Cases of lists, divisions, plans and floors.
 use crate::{input, say};
-use planner::Answer;
+use planner::{Refusal, Town};
 use std::io::{self, Read, Write};
 
 // Command 4: the streets, the sites; the scores; the rows; the list of sites.
@@ -19,52 +19,38 @@ pub fn list_case(reader: &mut impl Read, out: &mut impl Write, weighed: bool) ->
     let r_len = r.len;
     let sites = l.buffer;
     let l_len = l.len;
-    say::answer(
-        out,
-        planner::list_total(
-            n,
-            m,
-            &scores[..s_len],
-            &weights[..w_len],
-            &rows[..r_len],
-            &sites[..l_len],
-        ),
-    )
+    let town = Town {
+        n,
+        m,
+        scores: &scores[..s_len],
+        weights: &weights[..w_len],
+        rows: &rows[..r_len],
+    };
+    say::answer(out, planner::list_total(town, &sites[..l_len]))
 }
 
 // A division, balanced or free.
 fn division_of(
     balanced: bool,
-    n: usize,
-    m: usize,
-    scores: &[u16],
-    weights: &[u8],
-    rows: &[u8],
+    town: Town<'_>,
     sites: &[u8],
     division: &mut [u8],
-) -> Answer {
+) -> Result<u32, Refusal> {
     if balanced {
-        return planner::balanced_division(n, m, scores, weights, rows, sites, division);
+        return planner::balanced_division(town, sites, division);
     }
-    planner::free_division(n, m, scores, weights, rows, sites, division)
+    planner::free_division(town, sites, division)
 }
 
 // A division, and its buffer.
 fn divided(
     out: &mut impl Write,
     balanced: bool,
-    n: usize,
-    m: usize,
-    scores: &[u16],
-    weights: &[u8],
-    rows: &[u8],
+    town: Town<'_>,
     sites: &[u8],
     division: &mut [u8],
 ) -> io::Result<()> {
-    say::answer(
-        out,
-        division_of(balanced, n, m, scores, weights, rows, sites, division),
-    )?;
+    say::answer(out, division_of(balanced, town, sites, division))?;
     say::buffer(out, b" division", division)
 }
 
@@ -92,36 +78,26 @@ pub fn division_case(
     let l_len = l.len;
     let mut division = d.buffer;
     let d_len = d.len;
-    divided(
-        out,
-        balanced,
+    let town = Town {
         n,
         m,
-        &scores[..s_len],
-        &weights[..w_len],
-        &rows[..r_len],
-        &sites[..l_len],
-        &mut division[..d_len],
-    )
+        scores: &scores[..s_len],
+        weights: &weights[..w_len],
+        rows: &rows[..r_len],
+    };
+    divided(out, balanced, town, &sites[..l_len], &mut division[..d_len])
 }
 
 // A plan, and its buffers.
 fn planned(
     out: &mut impl Write,
-    n: usize,
-    m: usize,
+    town: Town<'_>,
     k: usize,
     kind: usize,
-    scores: &[u16],
-    weights: &[u8],
-    rows: &[u8],
     division: &mut [u8],
     chosen: &mut [u8],
 ) -> io::Result<()> {
-    say::answer(
-        out,
-        planner::plan(n, m, k, kind, scores, weights, rows, division, chosen),
-    )?;
+    say::answer(out, planner::plan(town, k, kind, division, chosen))?;
     say::buffer(out, b" division", division)?;
     say::buffer(out, b" chosen", chosen)
 }
@@ -152,15 +128,18 @@ pub fn plan_case(
     let d_len = d.len;
     let mut chosen = c.buffer;
     let c_len = c.len;
-    planned(
-        out,
+    let town = Town {
         n,
         m,
+        scores: &scores[..s_len],
+        weights: &weights[..w_len],
+        rows: &rows[..r_len],
+    };
+    planned(
+        out,
+        town,
         k,
         kind,
-        &scores[..s_len],
-        &weights[..w_len],
-        &rows[..r_len],
         &mut division[..d_len],
         &mut chosen[..c_len],
     )
@@ -180,8 +159,12 @@ pub fn floor_case(reader: &mut impl Read, out: &mut impl Write, weighed: bool) -
     let w_len = w.len;
     let rows = r.buffer;
     let r_len = r.len;
-    say::answer(
-        out,
-        planner::floor(n, m, k, &scores[..s_len], &weights[..w_len], &rows[..r_len]),
-    )
+    let town = Town {
+        n,
+        m,
+        scores: &scores[..s_len],
+        weights: &weights[..w_len],
+        rows: &rows[..r_len],
+    };
+    say::answer(out, planner::floor(town, k))
 }

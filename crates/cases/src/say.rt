@@ -1,5 +1,5 @@
 // What the program prints of an answer.
-use planner::{Answer, Checked};
+use planner::Refusal;
 use std::io::{self, Write};
 
 // A word and a number.
@@ -9,25 +9,25 @@ pub fn number(out: &mut impl Write, word: &[u8], x: u64) -> io::Result<()> {
 }
 
 // A check's answer.
-pub fn checked(out: &mut impl Write, given: Checked) -> io::Result<()> {
+pub fn checked(out: &mut impl Write, given: Result<(), Refusal>) -> io::Result<()> {
     match given {
-        Checked::Accepted => out.write_all(b" accepted"),
-        Checked::Refused(x) => number(out, b" refused ", x as u64),
+        Ok(()) => out.write_all(b" accepted"),
+        Err(refusal) => number(out, b" refused ", u64::from(refusal.number())),
     }
 }
 
 // An answer with a total.
-pub fn answer(out: &mut impl Write, given: Answer) -> io::Result<()> {
+pub fn answer(out: &mut impl Write, given: Result<u32, Refusal>) -> io::Result<()> {
     match given {
-        Answer::Total(t) => number(out, b" total ", t as u64),
-        Answer::Refused(x) => number(out, b" refused ", x as u64),
+        Ok(total) => number(out, b" total ", u64::from(total)),
+        Err(refusal) => number(out, b" refused ", u64::from(refusal.number())),
     }
 }
 
 // The bytes of a list.
 pub fn list(out: &mut impl Write, bytes: &[u8]) -> io::Result<()> {
-    for i in 0..bytes.len() {
-        number(out, b" ", bytes[i] as u64)?;
+    for byte in bytes {
+        number(out, b" ", u64::from(*byte))?;
     }
     Ok(())
 }

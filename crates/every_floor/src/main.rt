@@ -6,7 +6,7 @@ ghost use Rattle.std.specs.Prelude.{◌≡◌, ◌≤◌, length};
 
 use plain_search::floors;
 use plain_search::scores::wide;
-use planner::Answer;
+use planner::{Refusal, Town};
 use std::io::{self, Write};
 
 // the most sites, and the most bytes of rows
@@ -55,16 +55,10 @@ fn weighed(scores: &[u16], m: usize, k: usize) -> u32
 }
 
 // 1 where an answer is this total, else 0.
-fn same(answer: Answer, total: u32) -> u64
+fn same(answer: Result<u32, Refusal>, total: u32) -> u64
     ensures { result ≤ 1 }
 {
-    let Answer::Total(given) = answer else {
-        return 0;
-    };
-    if given != total {
-        return 0;
-    }
-    1
+    u64::from(answer == Ok(total))
 }
 
 // How many bytes the rows of k streets have.
@@ -81,10 +75,14 @@ fn right_floor(scores: &[u16], weights: &[u8], rows: &[u8], m: usize, k: usize) 
     ensures { result ≤ 1 }
 {
     let bytes = row_bytes(m, k);
-    same(
-        planner::floor(k, m, k, &scores[..m], &weights[..k], &rows[..bytes]),
-        weighed(scores, m, k),
-    )
+    let town = Town {
+        n: k,
+        m,
+        scores: &scores[..m],
+        weights: &weights[..k],
+        rows: &rows[..bytes],
+    };
+    same(planner::floor(town, k), weighed(scores, m, k))
 }
 
 // How many floors of m sites are right, over every K.

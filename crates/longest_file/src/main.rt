@@ -4,7 +4,7 @@
 
 ghost use Rattle.std.specs.Prelude.{◌≤◌};
 
-use planner::{Answer, Read};
+use planner::{Refusal, Sizes, Town};
 use std::io::{self, Write};
 
 // the bytes of the longest file of each form
@@ -47,10 +47,10 @@ fn say_differences(out: &mut impl Write, word: &[u8], a: &[u8], b: &[u8]) -> io:
 }
 
 // The answer of the writer or the converter.
-fn say_made(out: &mut impl Write, answer: Answer) -> io::Result<()> {
+fn say_made(out: &mut impl Write, answer: Result<u32, Refusal>) -> io::Result<()> {
     match answer {
-        Answer::Total(t) => say(out, b"bytes ", t as u64),
-        Answer::Refused(x) => say(out, b"refused ", x as u64),
+        Ok(bytes) => say(out, b"bytes ", u64::from(bytes)),
+        Err(refusal) => say(out, b"refused ", u64::from(refusal.number())),
     }
 }
 
@@ -60,22 +60,35 @@ fn form_number(new_form: bool) -> u64 {
 }
 
 // The reader's answer.
-fn say_read(out: &mut impl Write, answer: Read) -> io::Result<()> {
+fn say_read(out: &mut impl Write, answer: Result<Sizes, Refusal>) -> io::Result<()> {
     match answer {
-        Read::Survey {
-            n,
-            m,
-            k,
-            kind,
-            new_form,
-        } => {
+        Ok(
+            Sizes {
+                n,
+                m,
+                k,
+                kind,
+                new_form,
+            },
+        ) => {
             say(out, b"streets ", n as u64)?;
             say(out, b"sites ", m as u64)?;
             say(out, b"chosen ", k as u64)?;
             say(out, b"kind ", kind as u64)?;
             say(out, b"form ", form_number(new_form))
         }
-        Read::Refused(x) => say(out, b"refused ", x as u64),
+        Err(refusal) => say(out, b"refused ", u64::from(refusal.number())),
+    }
+}
+
+// The largest town.
+fn full_town<'a>(scores: &'a [u16], weights: &'a [u8], rows: &'a [u8]) -> Town<'a> {
+    Town {
+        n: 400,
+        m: 64,
+        scores,
+        weights,
+        rows,
     }
 }
 
@@ -97,7 +110,7 @@ fn read_and_written(
     )?;
     say_made(
         out,
-        planner::write_file(400, 64, 64, 1, new_form, &table, &counted, &back, again),
+        planner::write_file(full_town(&table, &counted, &back), 64, 1, new_form, again),
     )?;
     say_differences(out, b"weights that differ ", weights, &counted)?;
     say_differences(out, b"row bytes that differ ", rows, &back)?;
@@ -113,7 +126,7 @@ fn old_file(out: &mut impl Write, scores: &[u16], rows: &[u8]) -> io::Result<()>
     let mut back = [0u8; OLD];
     say_made(
         out,
-        planner::write_file(400, 64, 64, 1, false, scores, &weights, rows, &mut file),
+        planner::write_file(full_town(scores, &weights, rows), 64, 1, false, &mut file),
     )?;
     read_and_written(out, false, &file, &weights, rows, &mut again)?;
     say_made(out, planner::convert_file(&file, true, &mut other))?;
@@ -131,7 +144,7 @@ fn new_file(out: &mut impl Write, scores: &[u16], rows: &[u8]) -> io::Result<()>
     full_towns::fill_weights(&mut weights);
     say_made(
         out,
-        planner::write_file(400, 64, 64, 1, true, scores, &weights, rows, &mut file),
+        planner::write_file(full_town(scores, &weights, rows), 64, 1, true, &mut file),
     )?;
     read_and_written(out, true, &file, &weights, rows, &mut again)?;
     say_made(out, planner::convert_file(&file, true, &mut own))?;

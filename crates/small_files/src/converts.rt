@@ -4,7 +4,7 @@ ghost use Rattle.std.specs.Prelude.{◌≤◌};
 use crate::lent::{FILE, UNTOUCHED};
 use crate::{counts, writes};
 use plain_files::converting;
-use planner::Answer;
+use planner::Refusal;
 
 // What the converter makes of a file, where this one is right.
 fn converted(file: &[u8], wanted: bool, buffer: &mut [u8], right: &[u8]) -> u8 {
@@ -60,11 +60,8 @@ fn compare_back(counts: &mut [u64], file: &[u8], there: &[u8], new_form: bool) {
 }
 
 // The length of a file that was made, and 0 where it was refused.
-fn length_of(answer: Answer) -> usize {
-    match answer {
-        Answer::Total(size) => size as usize,
-        Answer::Refused(_) => 0,
-    }
+fn length_of(answer: Result<u32, Refusal>) -> usize {
+    answer.unwrap_or(0) as usize
 }
 
 // A file of a form to the other one and back, where that loses no weight, and to its own.

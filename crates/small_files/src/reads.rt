@@ -7,7 +7,7 @@ use crate::lent::{UNSCORED, UNTOUCHED};
 use crate::{counts, lent};
 use plain_files::filling::Filed;
 use plain_files::{filling, reading};
-use planner::Read;
+use planner::Sizes;
 
 // the right lengths of the reader's buffers, each with one entry more in its array
 const SCORES: usize = 64;
@@ -17,21 +17,15 @@ const WEIGHTS: usize = 400;
 const ROWS: usize = 25600;
 
 // Whether the reader's numbers are those of a file.
-fn is_told(held: Filed, n: usize, m: usize, k: usize, kind: usize, new_form: bool) -> bool {
-    let town = held.town;
-    if town.n != n {
-        return false;
-    }
-    if town.m != m {
-        return false;
-    }
-    if town.k != k {
-        return false;
-    }
-    if held.kind as usize != kind {
-        return false;
-    }
-    held.new_form == new_form
+fn is_told(held: Filed, sizes: Sizes) -> bool {
+    sizes
+        == Sizes {
+            n: held.town.n,
+            m: held.town.m,
+            k: held.town.k,
+            kind: usize::from(held.kind),
+            new_form: held.new_form,
+        }
 }
 
 // Whether the reader's buffers hold what a file holds, and nothing behind it was touched.
@@ -78,17 +72,8 @@ fn outcome(file: &[u8], scores: &mut [u16], weights: &mut [u8], rows: &mut [u8])
     let answer = planner::read_file(file, scores, weights, rows);
     let held = filling::taken(file);
     match answer {
-        Read::Survey {
-            n,
-            m,
-            k,
-            kind,
-            new_form,
-        } => read_outcome(
-            is_told(held, n, m, k, kind, new_form),
-            is_filled(held, scores, weights, rows),
-        ),
-        Read::Refused(x) => refused_outcome(x, scores, weights, rows),
+        Ok(sizes) => read_outcome(is_told(held, sizes), is_filled(held, scores, weights, rows)),
+        Err(refusal) => refused_outcome(refusal.number(), scores, weights, rows),
     }
 }
 

@@ -7,7 +7,7 @@ use crate::lent::{FILE, UNTOUCHED};
 use crate::{counts, lent};
 use drawn_towns::{Town, changes, weights};
 use plain_files::{surveys, writing};
-use planner::Answer;
+use planner::Refusal;
 
 // 0 where a buffer has the right file and its length was answered.
 pub fn made(size: usize, buffer: &[u8], right: &[u8]) -> u8 {
@@ -23,10 +23,10 @@ pub fn refused(x: u8, buffer: &[u8]) -> u8 {
 }
 
 // What an answer and its buffer come to.
-pub fn outcome(answer: Answer, buffer: &[u8], right: &[u8]) -> u8 {
+pub fn outcome(answer: Result<u32, Refusal>, buffer: &[u8], right: &[u8]) -> u8 {
     match answer {
-        Answer::Total(size) => made(size as usize, buffer, right),
-        Answer::Refused(x) => refused(x, buffer),
+        Ok(size) => made(size as usize, buffer, right),
+        Err(refusal) => refused(refusal.number(), buffer),
     }
 }
 
@@ -40,17 +40,14 @@ fn written(town: Town, kind: u8, new_form: bool, buffer: &mut [u8], right: &[u8]
     let scores = town.scores;
     let weights = town.weights;
     let rows = town.rows;
-    let answer = planner::write_file(
-        town.n,
+    let lent = planner::Town {
+        n: town.n,
         m,
-        town.k,
-        kind as usize,
-        new_form,
-        &scores[..m],
-        &weights[..w],
-        &rows[..len],
-        buffer,
-    );
+        scores: &scores[..m],
+        weights: &weights[..w],
+        rows: &rows[..len],
+    };
+    let answer = planner::write_file(lent, town.k, usize::from(kind), new_form, buffer);
     outcome(answer, buffer, right)
 }
 

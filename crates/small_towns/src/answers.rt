@@ -4,7 +4,7 @@ ghost use Rattle.drawn_towns.specs.Small.{Small};
 
 use crate::say;
 use drawn_towns::{SITES, STREETS, Town};
-use planner::{Answer, Checked};
+use planner::Refusal;
 use std::io::{self, Write};
 
 // what stands in a buffer before a call
@@ -20,17 +20,17 @@ pub struct Given {
 }
 
 // An answer and its buffers.
-pub fn told(answer: Answer, division: [u8; STREETS], chosen: [u8; SITES]) -> Given {
+pub fn told(answer: Result<u32, Refusal>, division: [u8; STREETS], chosen: [u8; SITES]) -> Given {
     match answer {
-        Answer::Total(total) => Given {
+        Ok(total) => Given {
             total,
             refused: 0,
             division,
             chosen,
         },
-        Answer::Refused(refused) => Given {
+        Err(refusal) => Given {
             total: 0,
-            refused,
+            refused: refusal.number(),
             division,
             chosen,
         },
@@ -48,15 +48,15 @@ pub fn plain(total: u32, refused: u8) -> Given {
 }
 
 // The answer of an entry that has no buffers.
-pub fn told_alone(answer: Answer) -> Given {
+pub fn told_alone(answer: Result<u32, Refusal>) -> Given {
     told(answer, [UNTOUCHED; STREETS], [UNTOUCHED; SITES])
 }
 
 // The number of a check's answer.
-pub fn number_of(answer: Checked) -> u8 {
+pub fn number_of(answer: Result<(), Refusal>) -> u8 {
     match answer {
-        Checked::Accepted => 0,
-        Checked::Refused(x) => x,
+        Ok(()) => 0,
+        Err(refusal) => refusal.number(),
     }
 }
 

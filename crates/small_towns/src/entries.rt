@@ -8,23 +8,19 @@ use crate::answers::{Given, UNTOUCHED};
 use drawn_towns::asked::Asked;
 use drawn_towns::loads::Loads;
 use drawn_towns::{SITES, STREETS, Town};
-use planner::Answer;
+use planner::Refusal;
 
 // A division over a list, balanced or free.
 fn divided(
     balanced: bool,
-    n: usize,
-    m: usize,
-    scores: &[u16],
-    weights: &[u8],
-    rows: &[u8],
+    town: planner::Town<'_>,
     sites: &[u8],
     division: &mut [u8],
-) -> Answer {
+) -> Result<u32, Refusal> {
     if balanced {
-        return planner::balanced_division(n, m, scores, weights, rows, sites, division);
+        return planner::balanced_division(town, sites, division);
     }
-    planner::free_division(n, m, scores, weights, rows, sites, division)
+    planner::free_division(town, sites, division)
 }
 
 // The division over a town's list.
@@ -41,16 +37,14 @@ pub fn division(town: Town, balanced: bool) -> Given
     let rows = town.rows;
     let sites = town.sites;
     let mut division = [UNTOUCHED; STREETS];
-    let answer = divided(
-        balanced,
-        n,
-        m,
-        &scores[..m],
-        &weights[..w],
-        &rows[..len],
-        &sites[..k],
-        &mut division[..n],
-    );
+    let lent = planner::Town {
+        n: n,
+        m: m,
+        scores: &scores[..m],
+        weights: &weights[..w],
+        rows: &rows[..len],
+    };
+    let answer = divided(balanced, lent, &sites[..k], &mut division[..n]);
     answers::told(answer, division, [UNTOUCHED; SITES])
 }
 
@@ -68,14 +62,17 @@ pub fn plan(town: Town, asked: Asked) -> Given
     let rows = town.rows;
     let mut division = [UNTOUCHED; STREETS];
     let mut chosen = [UNTOUCHED; SITES];
+    let lent = planner::Town {
+        n: asked.n,
+        m: asked.m,
+        scores: &scores[..m],
+        weights: &weights[..w],
+        rows: &rows[..len],
+    };
     let answer = planner::plan(
-        asked.n,
-        asked.m,
+        lent,
         asked.k,
         asked.kind,
-        &scores[..m],
-        &weights[..w],
-        &rows[..len],
         &mut division[..n],
         &mut chosen[..k],
     );
@@ -94,14 +91,14 @@ pub fn list_total(town: Town) -> Given
     let weights = town.weights;
     let rows = town.rows;
     let sites = town.sites;
-    let answer = planner::list_total(
-        town.n,
-        m,
-        &scores[..m],
-        &weights[..w],
-        &rows[..len],
-        &sites[..k],
-    );
+    let lent = planner::Town {
+        n: town.n,
+        m: m,
+        scores: &scores[..m],
+        weights: &weights[..w],
+        rows: &rows[..len],
+    };
+    let answer = planner::list_total(lent, &sites[..k]);
     answers::told_alone(answer)
 }
 
@@ -115,7 +112,14 @@ pub fn floor(town: Town) -> Given
     let scores = town.scores;
     let weights = town.weights;
     let rows = town.rows;
-    let answer = planner::floor(town.n, m, town.k, &scores[..m], &weights[..w], &rows[..len]);
+    let lent = planner::Town {
+        n: town.n,
+        m: m,
+        scores: &scores[..m],
+        weights: &weights[..w],
+        rows: &rows[..len],
+    };
+    let answer = planner::floor(lent, town.k);
     answers::told_alone(answer)
 }
 
@@ -129,14 +133,14 @@ pub fn check(town: Town) -> Given
     let scores = town.scores;
     let weights = town.weights;
     let rows = town.rows;
-    let answer = planner::check_survey(
-        town.n,
-        m,
-        town.k,
-        &scores[..m],
-        &weights[..w],
-        &rows[..len],
-    );
+    let lent = planner::Town {
+        n: town.n,
+        m: m,
+        scores: &scores[..m],
+        weights: &weights[..w],
+        rows: &rows[..len],
+    };
+    let answer = planner::check_survey(lent, town.k);
     answers::plain(0, answers::number_of(answer))
 }
 
@@ -157,13 +161,11 @@ fn tested(
     asked: Asked,
     n: usize,
     m: usize,
-    scores: &[u16],
-    weights: &[u8],
-    rows: &[u8],
+    town: planner::Town<'_>,
     division: &[u8],
     claimed: u32,
     loads: Loads,
-) -> Answer
+) -> Result<u32, Refusal>
     requires { (n ≤ 8) × (m ≤ 5) × Sized loads }
 {
     let kilograms = loads.kilograms.streets;
@@ -174,21 +176,13 @@ fn tested(
     let b = lent(n, loads.short == 2);
     let c = lent(m, loads.short == 3);
     let d = lent(m, loads.short == 4);
-    planner::hand_plan(
-        asked.n,
-        asked.m,
-        asked.k,
-        asked.kind,
-        scores,
-        weights,
-        rows,
-        division,
-        claimed,
-        &kilograms[..a],
-        &litres[..b],
-        &kilogram_limits[..c],
-        &litre_limits[..d],
-    )
+    let brought = planner::Loads {
+        kilograms: &kilograms[..a],
+        litres: &litres[..b],
+        kilogram_limits: &kilogram_limits[..c],
+        litre_limits: &litre_limits[..d],
+    };
+    planner::hand_plan(town, asked.k, asked.kind, division, claimed, brought)
 }
 
 // The same over a town's survey.
@@ -202,16 +196,13 @@ pub fn hand(town: Town, asked: Asked, division: [u8; STREETS], claimed: u32, loa
     let scores = town.scores;
     let weights = town.weights;
     let rows = town.rows;
-    let answer = tested(
-        asked,
-        n,
-        m,
-        &scores[..m],
-        &weights[..w],
-        &rows[..len],
-        &division[..n],
-        claimed,
-        loads,
-    );
+    let lent = planner::Town {
+        n: asked.n,
+        m: asked.m,
+        scores: &scores[..m],
+        weights: &weights[..w],
+        rows: &rows[..len],
+    };
+    let answer = tested(asked, n, m, lent, &division[..n], claimed, loads);
     answers::told_alone(answer)
 }
