@@ -1,7 +1,7 @@
 -- Walking back from a raised site to a meeting, by Bellman-Ford's predecessors, and the closed chain of moves that it finds, a gaining cycle. At layer
 -- l the street ts l stands at the site xs l and goes to the site xs (l + 1). The table of the streets that raised the sites has a row for each layer.
 -- Assumes nothing.
-use Rattle.std.specs.Prelude.{ℕ, zero, suc, ◌+◌, ◌*◌, ◌≤◌, ◌<◌, ◌≡◌, ◌≢◌, List, length, set}
+use Rattle.std.specs.Prelude.{ℕ, zero, suc, ◌+◌, ◌*◌, ◌≤◌, ◌<◌, ◌≡◌, ◌≢◌, List, length, set, Option, MatchOption}
 use Rattle.counting.specs.Lists.{at, cell}
 
 -- a division after q moves of a chain that begins at layer i
@@ -46,21 +46,20 @@ pub record Linked (via : ℕ → ℕ → ℕ) (D : List ℕ) (w k l : ℕ) (ts x
 abbrev pub Apart : (ℕ → ℕ) → ℕ → ℕ → Type 0
 Apart xs l k = (p q : ℕ) → l ≤ p → p < q → q ≤ k → xs p ≢ xs q
 
--- what a walk finds: q moves from a layer on that end where they began; none only while there are fewer layers than sites
+-- what a walk finds: some moves, q of them, from a layer on that end where they began
 pub record Walked (via : ℕ → ℕ → ℕ) (D : List ℕ) (w k : ℕ) (ts xs : ℕ → ℕ) (from q : ℕ) : Type 0 where
-  pub none : q ≡ 0 → k < w
+  pub some : 0 < q
   pub fits : from + q ≤ k
   pub trail : Trail D ts xs from q
   pub closed : xs (from + q) ≡ xs from
   pub by : (l : ℕ) → from ≤ l → l < from + q → ts l ≡ via l (xs (l + 1))
   pub site : (l : ℕ) → from ≤ l → l ≤ from + q → xs l < w
 
--- the first place of the site x from one place on and before another; that other place where x has none
-pub record Found (xs : ℕ → ℕ) (from to x place : ℕ) : Type 0 where
-  pub low : from ≤ place
-  pub high : place ≤ to
-  pub here : place < to → xs place ≡ x
-  pub before : (p : ℕ) → from ≤ p → p < place → xs p ≢ x
+-- the first place of the site x in a list; none where it has none
+abbrev pub Found : List ℕ → ℕ → Option ℕ → Type 0
+Found sites x place =
+    MatchOption place ((p : ℕ) → p < length sites → at sites p ≢ x)
+    (λ q. (q < length sites) × (at sites q ≡ x) × ((p : ℕ) → p < q → at sites p ≢ x))
 
 -- what a step from layer l + 1 down to layer l is lent: the site above was raised by a street, and the buffers have room
 pub record Linkable (vias division : List ℕ) (w l : ℕ) (streets sites : List ℕ) : Type 0 where

@@ -1,28 +1,22 @@
 // The closed chain of moves: the walk back from a raised site to a meeting finds it, and the shift moves its streets.
 #![tactic(auto)]
 
-ghost use Rattle.std.specs.Prelude.{◌≡◌, ◌+◌, ◌≤◌, length, set};
+ghost use Rattle.std.specs.Prelude.{◌≡◌, ◌+◌, ◌<◌, length, set, MatchOption};
 ghost use Rattle.counting.specs.Lists.{at, cell};
 ghost use Rattle.rings.specs.Rings.{moved, Moves, Walkable, Walked, Found, Linkable};
 
-// The layer where a closed chain begins, and the number of its moves; no moves where there is no chain.
+// The layer where a closed chain begins, and the number of its moves.
 #[derive(Clone, Copy)]
 pub struct Ring {
     pub from: usize,
     pub count: usize,
 }
 
-// The first place of a site in a range of places, the range's end where it has none.
-fn find(sites: &[u8], from: usize, to: usize, x: u8) -> usize
-    requires { (from ≤ to) × (to ≤ length sites.now) }
-    ensures { Found (at sites.now) from to x result }
+// The first place that a site has in a list, if it has one.
+fn find(sites: &[u8], x: u8) -> Option<usize>
+    ensures { Found sites.now x result }
 {
-    for p in from..to {
-        if sites[p] == x {
-            return p;
-        }
-    }
-    to
+    sites.iter().position(|site| *site == x)
 }
 
 // One layer down: the street that raised the site above, and that street's own site.
@@ -32,13 +26,14 @@ fn step(vias: &[u16], division: &[u8], w: usize, l: usize, streets: &mut [u16], 
     ensures sites { sites.new
         ≡ set sites.old l (at division.now (cell vias.now w l (at sites.old (l + 1)))) }
 {
-    let x = sites[l + 1] as usize;
+    let x = usize::from(sites[l + 1]);
     let street = vias[l * w + x];
     streets[l] = street;
-    sites[l] = division[street as usize];
+    sites[l] = division[usize::from(street)];
 }
 
-// The walk from the site b, raised by the layer before k, down the layers until it meets a site again; the chain between is closed.
+// The walk from the site b, raised by the layer before k, down the layers until it meets a site again; the chain between is closed. There is
+// none only while there are fewer layers than sites.
 pub fn walk(
     vias: &[u16],
     division: &[u8],
@@ -47,35 +42,34 @@ pub fn walk(
     b: usize,
     streets: &mut [u16],
     sites: &mut [u8],
-) -> Ring
+) -> Option<Ring>
     requires { Walkable vias.now division.now w k b streets.old sites.old }
-    ensures { Walked (cell vias.now w) division.now w k
-        (at streets.new) (at sites.new) result.from result.count }
+    ensures { MatchOption result (k < w)
+        (λ ring. Walked (cell vias.now w) division.now w k
+        (at streets.new) (at sites.new) ring.from ring.count) }
 {
     sites[k] = b as u8;
-    let mut l = k;
-    while 0 < l {
-        l = l - 1;
+    for l in (0..k).rev() {
         step(vias, division, w, l, streets, sites);
-        let meeting = find(sites, l + 1, k + 1, sites[l]);
-        if meeting <= k {
-            return Ring {
+        if let Some(meeting) = find(&sites[l + 1..k + 1], sites[l]) {
+            return Some(Ring {
                 from: l,
-                count: meeting - l,
-            };
+                count: meeting + 1,
+            });
         }
     }
-    Ring { from: 0, count: 0 }
+    None
 }
 
 // Each street of the chain goes to the next site of it.
-pub fn shift(division: &mut [u8], streets: &[u16], sites: &[u8], from: usize, count: usize)
-    requires { Moves (length division.old) streets.now sites.now from count }
-    ensures { division.new ≡ moved division.old (at streets.now) (at sites.now) from count }
+pub fn shift(division: &mut [u8], streets: &[u16], sites: &[u8], ring: Ring)
+    requires { Moves (length division.old) streets.now sites.now ring.from ring.count }
+    ensures { division.new ≡ moved division.old (at streets.now) (at sites.now)
+        ring.from ring.count }
 {
-    for q in 0..count {
-        let l = from + q;
-        let street = streets[l] as usize;
-        division[street] = sites[l + 1];
+    let from = ring.from;
+    let to = from + ring.count;
+    for (street, site) in streets[from..to].iter().zip(&sites[from + 1..]) {
+        division[usize::from(*street)] = *site;
     }
 }

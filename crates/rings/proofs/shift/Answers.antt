@@ -1,16 +1,29 @@
-use mathlib.Core.Path.{refl, ◌∙◌}
-use native.Mathlib.Omega.{arith}
-use lib.ListN.{length-set}
-use Rattle.counting.specs.Lists.{at}
-use Rattle.rings.proofs.Moved.{moved_none, moved_more}
+use Rattle.std.proofs.Common.{refl, ◌+◌, ◌∙◌, length, length-set, arith}
+use Rattle.std.proofs.lemmas.List.{length_push}
+use Rattle.std.proofs.lemmas.Slice.Zip.{zip_turn}
+use Rattle.counting.proofs.Parts.{part}
+use Rattle.rings.proofs.Moved.{moved_none, moved_more, next-move}
 use Rattle.rings.proofs.shift.Goals as goal
 
-pub loop-q-init : goal.loop-q-init
-loop-q-init c = (omega arith, refl, moved_none _ _ _ _)
+pub loop-street-init : goal.loop-street-init
+loop-street-init c = (refl, moved_none _ _ _ _)
 
-pub loop-q-preserved : goal.loop-q-preserved
-loop-q-preserved c =
-    let l = c.loop-q in
+pub bounds-division-from : goal.bounds-division-from
+bounds-division-from c =
     let a = c.args in
-    let more = moved_more a.division.now l.division (at a.streets.now) (at a.sites.now) a.from l.q l.invariant.2 in
-    (omega arith, length-set l.division _ _ ∙ l.invariant.1, more)
+    let r = a.ring in
+    let turn = zip_turn (part r.from (r.from + r.count) a.streets.now) (part (r.from + 1) (length a.sites.now) a.sites.now) c.loop-street.yielded _ _ c.next.new.self _
+    (cc) (cc) c.loop-street.yielded_by _ c.in-Some.is c.next.ensures.steps in
+    let (less, street, site) = next-move a.streets.now a.sites.now r.from r.count _ _ _ c.requires.streets-fit turn in
+    omega (arith, c.requires.within (r.from + length c.loop-street.yielded) (omega arith) (omega arith), street, c.loop-street.invariant.0)
+
+pub loop-street-preserved : goal.loop-street-preserved
+loop-street-preserved c =
+    let a = c.args in
+    let r = a.ring in
+    let l = c.loop-street in
+    let turn = zip_turn (part r.from (r.from + r.count) a.streets.now) (part (r.from + 1) (length a.sites.now) a.sites.now) l.yielded _ _ c.next.new.self _
+    (cc) (cc) l.yielded_by _ c.in-Some.is c.next.ensures.steps in
+    let (less, street, site) = next-move a.streets.now a.sites.now r.from r.count _ _ _ c.requires.streets-fit turn in
+    let more = moved_more a.division.now l.division _ _ r.from (length l.yielded) l.invariant.1 in
+    (length-set l.division _ _ ∙ l.invariant.0, rw (length_push, c.from.ensures, street, site) more)
