@@ -1,7 +1,7 @@
 // The tables of the best move between each two sites, made for a division and mended after streets have moved.
 #![tactic(auto)]
 
-ghost use Rattle.std.specs.Prelude.{◌≡◌, ℕ, ◌+◌, ◌*◌, ◌≤◌, ◌<◌, length};
+ghost use Rattle.std.specs.Prelude.{◌≡◌, ℕ, ◌*◌, ◌<◌, length};
 ghost use Rattle.counting.specs.Lists.{at};
 ghost use Rattle.pairs.specs.Moves.{Valued, Tables, Renewed, Mended};
 
@@ -35,20 +35,17 @@ pub fn mend(
     division: &[u8],
     w: usize,
     sites: &[u8],
-    from: usize,
-    count: usize,
     pairs: &mut [u16],
     gains: &mut [u32],
 )
     requires valued { Valued values.now division.now w }
-    requires count_in_bounds { (from + count ≤ length sites.now) × (length pairs.old ≡ w * w) × (length gains.old ≡ w * w) }
-    requires by_index { (l : ℕ) → from ≤ l → l < from + count → at sites.now l < w }
-    requires mended { Mended values.now division.now w (at sites.now) from (from + count) pairs.old gains.old }
+    requires pairs_len { (length pairs.old ≡ w * w) × (length gains.old ≡ w * w) }
+    requires by_index { (l : ℕ) → l < length sites.now → at sites.now l < w }
+    requires mended { Mended values.now division.now w (at sites.now) 0 (length sites.now) pairs.old gains.old }
     ensures { Tables values.now division.now w pairs.new gains.new }
 {
-    let to = from + count;
-    for i in from..to {
-        renew(values, division, w, sites[i] as usize, pairs, gains);
+    for site in sites {
+        renew(values, division, w, usize::from(*site), pairs, gains);
     }
 }
 

@@ -48,29 +48,6 @@ fn meet(
     }
 }
 
-// A street of any site: only one of the site a is held against the best moves.
-fn visit(
-    values: &[u32],
-    division: &[u8],
-    w: usize,
-    a: usize,
-    s: usize,
-    pairs: &mut [u16],
-    gains: &mut [u32],
-)
-    requires valued { Valued values.now division.now w }
-    requires s_in_bounds { (s < length division.now) × (a < w) × (length pairs.old ≡ w) × (length gains.old ≡ w) }
-    requires row { Row (cell values.now w) (at division.now) a s (length division.now) w (at gains.old) (at pairs.old) }
-    ensures { Row (cell values.now w) (at division.now)
-        a (s + 1) (length division.now) w (at gains.new) (at pairs.new) }
-{
-    let site = division[s] as usize;
-    if site != a {
-        return;
-    }
-    meet(values, division, w, a, s, pairs, gains);
-}
-
 // The best moves from the site a, over all streets. A gain of 0 says that no street has been looked at.
 pub fn rebuild(
     values: &[u32],
@@ -85,8 +62,10 @@ pub fn rebuild(
     ensures { Row (cell values.now w) (at division.now)
         a (length division.now) (length division.now) w (at gains.new) (at pairs.new) }
 {
-    buffers::clear_numbers(gains);
-    for s in 0..division.len() {
-        visit(values, division, w, a, s, pairs, gains);
+    gains.fill(0);
+    for (s, site) in division.iter().enumerate() {
+        if usize::from(*site) == a {
+            meet(values, division, w, a, s, pairs, gains);
+        }
     }
 }
