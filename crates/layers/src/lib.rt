@@ -1,10 +1,9 @@
 // One layer of the search for a chain that gains, made from the tables of best moves, one site's row after another: a round of Bellman-Ford.
 #![tactic(auto)]
 
-ghost use Rattle.std.specs.Prelude.{◌≡◌, ◌+◌, ◌*◌, ◌≤◌, ◌<◌, length};
+ghost use Rattle.std.specs.Prelude.{◌+◌, ◌*◌, ◌≤◌, ◌<◌, length};
 ghost use Rattle.counting.specs.Bounds.{most_value, most_price};
 ghost use Rattle.counting.specs.Lists.{at, cell};
-ghost use Rattle.counting.specs.Buffers.{Mapped};
 ghost use Rattle.pairs.specs.Moves.{Tables};
 ghost use Rattle.layers.specs.Layers.{Layerable, Fitting, Layer, Lifts, Taking};
 
@@ -32,18 +31,6 @@ fn take(price: u32, street: u16, share: u16, x: u32, u: u16) -> Taken
         };
     }
     Taken { price, street }
-}
-
-// Each site has its price from before, and no street has raised it.
-fn begin(before: &[u32], after: &mut [u32], via: &mut [u16], none: u16)
-    requires { (length after.old ≡ length before.now) × (length via.old ≡ length before.now) }
-    ensures prices { Mapped (λ b x. at before.now b) after.old after.new (length before.now) }
-    ensures streets { Mapped (λ b x. none) via.old via.new (length before.now) }
-{
-    for b in 0..before.len() {
-        after[b] = before[b];
-        via[b] = none;
-    }
 }
 
 // The best moves from a site that has streets are held against the price of each site. Both stores happen in every turn, so that the loop has no branch.
@@ -133,7 +120,8 @@ pub fn layer(
         (at before.now) (at division.now) (at shares.now)
         (length division.now) (length before.now) (at after.new) (at via.new) }
 {
-    begin(before, after, via, division.len() as u16);
+    after.copy_from_slice(before);
+    via.fill(division.len() as u16);
     for a in 0..before.len() {
         pass(
             before, after, via, values, division, pairs, gains, shares, a,
