@@ -6,6 +6,7 @@ use Prim.Native.Nat.{ℕ, ◌+◌, ◌*◌, ◌-◌, ◌≤◌, ◌<◌}
 use native.Mathlib.Nat.{mul-le-mul_right}
 use native.Mathlib.Omega.{arith}
 use lib.ListN.{length}
+use Rattle.std.specs.Prelude.{Option, Some, None}
 use Rattle.counting.specs.Bounds.{most_width}
 use Rattle.counting.specs.Lists.{at, cell}
 use Rattle.counting.proofs.Tables.{row_within}
@@ -113,17 +114,27 @@ module _ {values shares division : List ℕ} {k : ℕ} {low prices vias : List �
       layer
 
   -- of the raising streets that were written
-  pub raised-row : (via low' : List ℕ) {n r : ℕ} → length via ≡ length (row_at (k * length shares) (length shares) vias) → length low' ≡ length low
+  pub raised-row : (via low' : List ℕ) (n : ℕ) (r : Option ℕ) → length via ≡ length (row_at (k * length shares) (length shares) vias) → length low' ≡ length low
       → Raised (at (row_at (k * length shares) (length shares) (with_row (k * length shares) (length shares) vias via))) n (length low') (length low') r
       → Raised (cell (with_row (k * length shares) (length shares) vias via) (length shares) k) n (length shares) (length shares) r
-  raised-row via low' {r = r} fits e top =
-      let w : ℕ = length shares in
-      let new : List ℕ = with_row (k * w) w vias via in
-      let long : length low' ≡ w = e ∙ h.low_fits in
-      let in-new : k * w + w ≤ length new = written (k * w) w vias via room.in-vias fits in
-      let same : (b : ℕ) → b < w → at (row_at (k * w) w new) b ≡ cell new w k b = λ b l. part_at (k * w) (k * w + w) new in-new b (omega arith) in
-      record {
-        within = omega (arith, top.within);
-        some = λ l. omega (arith, same r l, top.some (omega arith));
-        none = λ l b m. omega (arith, same b m, top.none (omega arith) b (omega arith));
-      }
+  raised-row via low' n r fits e top =
+      elim r as (λ x. Raised (at (row_at from w new)) n (length low') (length low') x → Raised (cell new w k) n w w x)
+      [ None ↦ λ h b m. omega (arith, same b m, h b (omega (arith, long))) | Some x ↦ λ h. let (l, m) = h in (omega (arith, long), omega (arith, same x (omega (arith, long)))) ] top
+    where
+      w : ℕ
+      w = length shares
+
+      from : ℕ
+      from = k * length shares
+
+      new : List ℕ
+      new = with_row from w vias via
+
+      long : length low' ≡ w
+      long = e ∙ h.low_fits
+
+      in-new : from + w ≤ length new
+      in-new = written from w vias via room.in-vias fits
+
+      same : (b : ℕ) → b < w → at (row_at from w new) b ≡ cell new w k b
+      same b l = part_at from (from + w) new in-new b (omega arith)

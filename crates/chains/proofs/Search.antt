@@ -8,6 +8,7 @@ use native.Mathlib.Nat.{eq-or-lt_of_le}
 use native.Mathlib.Decide.{dec_lt}
 use native.Mathlib.Omega.{arith}
 use lib.ListN.{length}
+use Rattle.std.specs.Prelude.{None}
 use Rattle.counting.specs.Bounds.{most_value}
 use Rattle.counting.specs.Lists.{at, cell}
 use Rattle.counting.proofs.Sums.{at-past, at-within}
@@ -99,12 +100,12 @@ module _ {values shares division : List ℕ} {w k : ℕ} {low prices vias : List
       (λ q. absurd (omega (arith, upper.by raised, upper.rose raised, own.same (omega arith), lower.covers (upper.held raised) t raised)))
 
   -- under the prices of a layer that raises nothing no move has a negative reduced cost: they prove the division best
-  pub priced : (l : ℕ) {r : ℕ} → l + 1 ≡ k → length shares ≡ w → at shares 0 ≡ 0 → w ≤ r → Raised (cell vias w l) (length division) w w r
+  pub priced : (l : ℕ) → l + 1 ≡ k → length shares ≡ w → at shares 0 ≡ 0 → Raised (cell vias w l) (length division) w w None
       → Priced (cell values w) (at low) (tail shares) division
-  priced l e fit nobody done none t lt b held =
+  priced l e fit nobody none t lt b held =
       let has : 0 < at shares b = omega (arith, share-tail shares nobody b) in
       let o : b < w = omega (arith, at-within shares b has) in
       let a : ℕ = at division t in
       let here = rw e at (h.layers l (omega arith) a (sites t lt)) in
       let there = rw e at (h.layers l (omega arith) b o) in
-      omega (arith, h.last a (sites t lt), h.last b o, here.same (none.none done a (sites t lt)), there.covers has t lt)
+      omega (arith, h.last a (sites t lt), h.last b o, here.same (none a (sites t lt)), there.covers has t lt)

@@ -12,9 +12,11 @@ ghost use Rattle.pairs.specs.Moves.{Valued, Tables};
 ghost use Rattle.rings.specs.Rings.{moved, Moves};
 ghost use Rattle.chains.specs.Chains.{Buffers, Searched, Raised, Closed};
 
+use rings::Ring;
+
 pub mod steps;
 
-// One layer more: its prices and raising streets are kept, and a site that it raised is returned, w where it raised none.
+// One layer more: its prices and raising streets are kept, and a site that it raised is returned, if it raised one.
 fn deepen(
     values: &[u32],
     shares: &[u16],
@@ -25,7 +27,7 @@ fn deepen(
     vias: &mut [u16],
     pairs: &[u16],
     gains: &[u32],
-) -> usize
+) -> Option<usize>
     requires problem { Problem values.now shares.now (length division.now) × InShares division.now (tail shares.now) }
     requires k_in_bounds { (k < length shares.now) × (length low.old ≡ length shares.now)
         × (length prices.old ≡ (length shares.now + 1) * length shares.now) × (length vias.old ≡ length shares.now * length shares.now) }
@@ -37,7 +39,6 @@ fn deepen(
         (length division.now) (length shares.now) (length shares.now) result }
 {
     let w = shares.len();
-    let n = division.len();
     let from = k * w;
     let to = from + w;
     let end = to + w;
@@ -51,8 +52,8 @@ fn deepen(
         gains,
         shares,
     );
-    buffers::copy_numbers(&prices[to..end], low);
-    steps::highest(low, &vias[from..to], n)
+    low.copy_from_slice(&prices[to..end]);
+    steps::highest(low, &vias[from..to], division.len())
 }
 
 // A closed chain is shifted, and the best moves from its sites are made anew.
@@ -64,18 +65,20 @@ fn turn(
     gains: &mut [u32],
     streets: &[u16],
     sites: &[u8],
-    from: usize,
-    count: usize,
+    ring: Ring,
 )
     requires valued { Valued values.now division.old w }
     requires tables_2 { Tables values.now division.old w pairs.old gains.old }
-    requires moves { Moves (length division.old) streets.now sites.now from count }
-    requires closed { Closed division.old w (at streets.now) (at sites.now) from count }
-    ensures moved { division.new ≡ moved division.old (at streets.now) (at sites.now) from count }
+    requires moves { Moves (length division.old) streets.now sites.now ring.from ring.count }
+    requires closed { Closed division.old w (at streets.now) (at sites.now) ring.from ring.count }
+    ensures moved { division.new ≡ moved division.old (at streets.now) (at sites.now)
+        ring.from ring.count }
     ensures tables { Tables values.now division.new w pairs.new gains.new }
 {
-    rings::shift(division, streets, sites, from, count);
-    pairs::mend(values, division, w, sites, from, count, pairs, gains);
+    let from = ring.from;
+    let to = from + ring.count;
+    rings::shift(division, streets, sites, ring);
+    pairs::mend(values, division, w, &sites[from..to], pairs, gains);
 }
 
 // The division is improved until no chain of moves gains; its total is returned, and prices that prove it best are left in `low`.
@@ -100,25 +103,20 @@ pub fn improve(
 {
     let w = shares.len();
     pairs::build(values, division, w, pairs, gains);
-    let total = 'improve: loop {
-        steps::begin(low, prices);
+    'improve: loop {
+        low.fill(0);
+        prices[..w].fill(0);
         let mut k = 0;
         'search: loop {
-            let top = deepen(values, shares, division, k, low, prices, vias, pairs, gains);
-            if w <= top {
+            let Some(top) = deepen(values, shares, division, k, low, prices, vias, pairs, gains)
+            else {
                 break 'improve steps::sum(values, w, division);
-            }
+            };
             k += 1;
-            let ring = rings::walk(vias, division, w, k, top, streets, sites);
-            let from = ring.from;
-            let count = ring.count;
-            if 0 < count {
-                turn(
-                    values, w, division, pairs, gains, streets, sites, from, count,
-                );
+            if let Some(ring) = rings::walk(vias, division, w, k, top, streets, sites) {
+                turn(values, w, division, pairs, gains, streets, sites, ring);
                 break 'search;
             }
         }
-    };
-    total
+    }
 }

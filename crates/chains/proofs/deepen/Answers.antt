@@ -37,4 +37,4 @@ returns c =
     let via : List ℕ = c.layer.new.via in
     let d = deepening in
     let y = c.layer in
-    let copy = c.copy_numbers in record { searched = deepened d (after) (via) y.auto.after y.auto.via y.ensures refl refl copy.ensures; raised = raised-row d (via) copy.new.buffer y.auto.via copy.auto.buffer c.highest.ensures }
+    let copy = c.copy_from_slice in record { searched = deepened d (after) (via) y.auto.after y.auto.via y.ensures refl refl copy.ensures.after; raised = raised-row d (via) copy.new.self _ _ y.auto.via copy.auto.self c.highest.ensures }
