@@ -9,14 +9,14 @@ use Prim.Native.Nat.{ℕ, ◌+◌, ◌-◌, ◌*◌, ◌≤◌, ◌<◌}
 use native.Mathlib.Nat.{mul-le-mul}
 use native.Mathlib.Decide.{dec_lt}
 use native.Mathlib.Omega.{arith}
-use lib.ListN.{length, set, replicate, length-replicate}
+use lib.ListN.{length, set}
 use lib.Seq.{get_or-set_same, get_or-set_other}
 use borrow.Author.Count.{below_more}
 use Rattle.counting.specs.Bounds.{most_streets, most_width}
 use Rattle.counting.specs.Lists.{at}
 use Rattle.counting.proofs.Tables.{in_rows}
 use Rattle.queues.specs.Queue.{Grown, Growing}
-use Rattle.queues.specs.Tights.{Row, RowOf, Listed, Rowed, Rows, most_tights}
+use Rattle.queues.specs.Tights.{Row, RowOf, Listed, Rowed, most_tights}
 use Rattle.queues.proofs.QueueGrowth.{growing-start, growing-skip}
 use Rattle.division.specs.Prices.{Tight, Agree}
 
@@ -157,22 +157,11 @@ row_back {v} {d} {D} {E} tights ends y long back h = rw long row
       above = λ t l a e. h.above t l a (back t l e);
     }
 
--- lists of the same lengths have room for the rows of as many streets
-pub rows_same : {w n : ℕ} (k : ℕ) (tights ends now now_ends : List ℕ) → k ≡ n → length now ≡ length tights → length now_ends ≡ length ends
-    → Rows w n tights ends → Rows w k now now_ends
-rows_same {w} {n} k tights ends now now_ends e a b (c, d) = rw e (omega arith, omega arith)
-
--- a table of at most as many sites and streets is small
-area : (w n : ℕ) → w ≤ most_width → n ≤ most_streets → w * (n + 1) ≤ most_tights
-area w n few many = omega (arith, mul-le-mul {n₁ = w} {m₁ = n + 1} {n₂ = most_width} {m₂ = most_streets + 1} few (omega arith))
-
--- so there is room for all rows
-pub rows-room : (w n : ℕ) → w ≤ most_width → n ≤ most_streets → Rows w n (replicate most_tights 0) (replicate most_width 0)
-rows-room w n few many = (rw length-replicate (area w n few many), rw length-replicate few)
-
--- and a row's places are within the table
-pub row_fits : {w n : ℕ} (tights : List ℕ) (y e : ℕ) → y < w → e ≤ n → w ≤ most_width → n ≤ most_streets → w * (n + 1) ≤ length tights
-    → (y * (n + 1) + e < length tights) × (y * (n + 1) + e < most_tights)
-row_fits {w} {n} tights y e l m few many fit =
-    let within : y * (n + 1) + e < w * (n + 1) = in_rows y w (n + 1) e l (omega arith) in
-    (omega arith, omega (arith, area w n few many))
+-- a row's places are within a table with rows for the most sites and the most streets
+pub row_fits : {w n : ℕ} (y e : ℕ) → y < w → e ≤ n → w ≤ most_width → n ≤ most_streets → y * (n + 1) + e < most_tights
+row_fits {w} {n} y e l m few many =
+    omega (
+      arith,
+      in_rows y w (n + 1) e l (omega arith),
+      mul-le-mul {n₁ = w} {m₁ = n + 1} {n₂ = most_width} {m₂ = most_streets + 1} few (omega arith),
+    )
