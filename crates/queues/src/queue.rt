@@ -55,8 +55,9 @@ impl Queue {
     // The queue has one place, the site of s.
     fn start(&mut self, division: &[u8], s: usize)
         requires { (s < length division.now) × (at division.now s < most_width) }
-        ensures { (at self.new.sites 0 ≡ at division.now s) × (self.new.count ≡ 1)
-            × ((w : ℕ) → at division.now s < w → Placed w 1 self.new.sites self.new.flags) }
+        ensures site { at self.new.sites 0 ≡ at division.now s }
+        ensures count { self.new.count ≡ 1 }
+        ensures placed { (w : ℕ) → at division.now s < w → Placed w 1 self.new.sites self.new.flags }
     {
         self.flags.fill(false);
         let a = division[s];

@@ -4,8 +4,8 @@ use Rattle.queues.proofs.queue.Queue.grow.Goals as goal
 
 pub loop-i-init : goal.loop-i-init
 loop-i-init c =
-    let (site, count, placed) = c.start.ensures in
-    (omega arith, rw count (grown-start _ _ _ _ site (placed _ (c.requires.fits.sited _ c.requires.s_in_bounds))))
+    let e = c.start.ensures in
+    (omega arith, rw e.count (grown-start _ _ _ _ e.site (e.placed _ (c.requires.fits.sited _ c.requires.s_in_bounds))))
 
 pub overflow_add-i : goal.overflow_add-i
 overflow_add-i c = omega (arith, placed-fits c.scan.ensures.grown_2.placed, c.requires.fits.few-sites, c.scan.ensures.lower_bound)
