@@ -11,6 +11,7 @@ ghost use Rattle.division.specs.Divide.{divide};
 ghost use Rattle.division.specs.Problem.{Problem, tail};
 
 use counting::WIDTH;
+use queues::price_table::PriceTable;
 
 // The improving loop with buffers of its own; prices that prove the division best are left in `low`.
 fn improve(values: &[u32], shares: &[u16], division: &mut [u8], low: &mut [u32]) -> u32
@@ -44,31 +45,6 @@ fn improve(values: &[u32], shares: &[u16], division: &mut [u8], low: &mut [u32])
     )
 }
 
-// The tie pass with buffers of its own.
-fn settle(values: &[u32], shares: &[u16], prices: &[u32], division: &mut [u8])
-    requires problem { Problem values.now shares.now (length division.old) }
-    requires in_shares { InShares division.old (tail shares.now) }
-    requires prices_len { (length prices.now ≡ length shares.now) × ((a : ℕ) → at prices.now a ≤ most_price) }
-    requires priced { Priced (cell values.now (length shares.now)) (at prices.now) (tail shares.now) division.old }
-    ensures { division.new
-        ≡ divide (cell values.now (length shares.now)) (length division.old) (tail shares.now) }
-{
-    let mut streets = [0u16; WIDTH];
-    let mut nexts = [0u8; WIDTH];
-    let mut sites = [0u8; WIDTH];
-    let mut flags = [false; WIDTH];
-    ties::settle(
-        values,
-        shares,
-        prices,
-        division,
-        &mut streets,
-        &mut nexts,
-        &mut sites,
-        &mut flags,
-    );
-}
-
 // Any division in the shares becomes the best one, and its total is returned.
 pub fn best(values: &[u32], shares: &[u16], division: &mut [u8]) -> u32
     requires { Problem values.now shares.now (length division.old) × InShares division.old (tail shares.now) }
@@ -80,6 +56,11 @@ pub fn best(values: &[u32], shares: &[u16], division: &mut [u8]) -> u32
     let w = shares.len();
     let mut low = [0u32; WIDTH];
     let total = improve(values, shares, division, &mut low[..w]);
-    settle(values, shares, &low[..w], division);
+    let table = PriceTable {
+        values,
+        shares,
+        prices: &low[..w],
+    };
+    ties::settle(&table, division);
     total
 }

@@ -6,21 +6,20 @@ use mathlib.Core.List.{List}
 use Prim.Native.Nat.{ℕ, ◌+◌, ◌-◌, ◌≤◌, ◌<◌}
 use native.Mathlib.Decide.{ℕ_discrete, dec_lt}
 use native.Mathlib.Omega.{arith}
-use lib.ListN.{length, set, length-set}
+use lib.ListN.{length, set, length-set, replicate, length-replicate, get_or-replicate}
 use lib.Seq.{get_or-set_same, get_or-set_other}
 use Rattle.counting.specs.Lists.{at}
-use Rattle.counting.specs.Buffers.{Mapped}
 use Rattle.counting.proofs.Sums.{at-past}
 use Rattle.queues.specs.Queue.{Later}
 use Rattle.queues.specs.Limits.{Limits, Raised, LastAt}
 
 -- the number of streets is a limit of every site
-pub limits-start : {L : ℕ → Type 0} (s : ℕ) (D blank limits : List ℕ) → Mapped (λ x limit. length D) blank limits (length blank)
-    → ((t : ℕ) → t < length D → at D t < length blank) → Limits L s D limits
-limits-start s D blank limits h sited =
+pub limits-start : {L : ℕ → Type 0} (s : ℕ) (D : List ℕ) (w : ℕ) → ((t : ℕ) → t < length D → at D t < w) → Limits L s D (replicate w (length D))
+limits-start s D w sited =
     record {
-      within = λ x. by_cases (dec_lt x (length blank)) (λ l. omega (arith, h.done x l)) (λ o. omega (arith, at-past limits x (omega (arith, h.size))));
-      limit = λ t l m p. omega (arith, h.done (at D t) (sited t m));
+      within = λ x. by_cases (dec_lt x w) (λ l. rw (get_or-replicate w x (length D) 0 l) (omega arith))
+          (λ o. omega (arith, at-past (replicate w (length D)) x (rw length-replicate (omega arith))));
+      limit = λ t l m p. rw (get_or-replicate w (at D t) (length D) 0 (sited t m)) m;
     }
 
 module _ {L : ℕ → Type 0} {s : ℕ} {D limits : List ℕ} (h : Limits L s D limits) where
