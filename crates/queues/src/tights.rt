@@ -9,7 +9,7 @@ use crate::price_table::PriceTable;
 use counting::{STREETS, WIDTH};
 
 // a row for each site, which has a 0 and room for every street behind it
-const PLACES: usize = WIDTH * (STREETS + 1);
+pub const PLACES: usize = WIDTH * (STREETS + 1);
 
 // The rows one after the other, and how many streets each row has.
 #[derive(Drop)]
@@ -58,19 +58,14 @@ fn fill_row(table: &PriceTable, division: &[u8], y: usize, row: usize, tights: &
 
 impl TightRows {
     // Every site that has a share gets its row.
-    pub fn of(table: &PriceTable, division: &[u8]) -> Self
+    pub fn list_sites(&mut self, table: &PriceTable, division: &[u8])
         requires { Fits table.now division.now }
         ensures { Listed (value_of table.now) (price_of table.now) division.now table.now.shares.now
-            (length table.now.shares.now) result.tights result.ends }
+            (length table.now.shares.now) self.new.tights self.new.ends }
     {
-        let mut rows = TightRows {
-            tights: [0; PLACES],
-            ends: [0; WIDTH],
-        };
         for y in 0..table.shares.len() {
-            rows.list_site(table, division, y);
+            self.list_site(table, division, y);
         }
-        rows
     }
 
     // The site y gets its row, where it has a share.

@@ -15,7 +15,7 @@ use counting::WIDTH;
 use queues::limits;
 use queues::price_table::PriceTable;
 use queues::queue::Queue;
-use queues::tights::TightRows;
+use queues::tights::{PLACES, TightRows};
 
 // Whether the street s may go to the site b, and b can be left. The limit of b is lowered on the way.
 fn reach(table: &PriceTable, division: &[u8], s: usize, b: usize, limits: &mut [u16]) -> bool
@@ -115,7 +115,11 @@ pub fn settle(table: &PriceTable, division: &mut [u8])
     ensures { division.new
         ≡ divide (value_of table.now) (length division.old) (tail table.now.shares.now) }
 {
-    let rows = TightRows::of(table, division);
+    let mut rows = TightRows {
+        tights: [0; PLACES],
+        ends: [0; WIDTH],
+    };
+    rows.list_sites(table, division);
     let mut queue = Queue::new();
     let mut limits = [division.len() as u16; WIDTH];
     for s in 0..division.len() {

@@ -7,8 +7,8 @@ use Rattle.queues.proofs.LeaveLimits.{limits-start}
 use Rattle.ties.proofs.PassSteps.{priced-table-of, standing-start, standing-best}
 use Rattle.ties.proofs.settle.Goals as goal
 
-pub of-rows-requires : goal.of-rows-requires
-of-rows-requires c =
+pub list_sites-requires : goal.list_sites-requires
+list_sites-requires c =
     let p = c.requires in
     priced-table-of c.args.table.now.prices.now c.args.division.now p.problem p.prices p.in_shares
 
@@ -22,7 +22,7 @@ loop-s-init c =
         problem = p.problem;
         price = p.prices;
         standing = standing-start _ _ _ _ p.in_shares p.priced;
-        listed = c.of-rows.ensures;
+        listed = c.list_sites.ensures;
         fits = omega (arith, table.few-sites, length-replicate {A = ℕ} most_width (length D));
         limited = limits-start 0 D most_width (λ t l. omega (arith, table.sited t l, table.few-sites));
       },
