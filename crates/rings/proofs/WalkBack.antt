@@ -10,6 +10,7 @@ use native.Mathlib.Omega.{arith}
 use lib.ListN.{length, set}
 use Rattle.std.specs.Prelude.{Some, None}
 use lib.Seq.{get_or-set_same, get_or-set_other}
+use Rattle.counting.specs.Bounds.{most_width}
 use Rattle.counting.specs.Lists.{at, cell}
 use Rattle.counting.proofs.Parts.{part, part_length, part_at}
 use Rattle.counting.proofs.Tables.{in_rows, pigeon}
@@ -81,13 +82,13 @@ pub fewer : {via : ℕ → ℕ → ℕ} {D : List ℕ} {w k : ℕ} {ts xs : ℕ 
 fewer {w = w} {k} {xs = xs} l z h s =
     omega (arith, pigeon w (k + 1) xs (λ p q m b. s p q (omega arith) m (omega arith)) (λ p b. h.site p (omega arith) (omega arith)))
 
-module _ {vias D : List ℕ} {w k b : ℕ} {streets sites : List ℕ} (given : Walkable vias D w k b streets sites) where
+module _ {vias D : List ℕ} {w k b : ℕ} (given : Walkable vias D w k b) where
   -- the walk starts at the raised site
-  pub linked-start : (ts : List ℕ) {xs : List ℕ} → xs ≡ set sites k b → Walking vias D w k k k ts xs
-  linked-start ts {xs} e = (linked, λ p q a m n. absurd (omega arith))
+  pub linked-start : (ts sites : List ℕ) {xs : List ℕ} → length sites ≡ most_width + 1 → xs ≡ set sites k b → Walking vias D w k k k ts xs
+  linked-start ts sites {xs} size e = (linked, λ p q a m n. absurd (omega arith))
     where
       here : at xs k ≡ b
-      here = stored_here sites xs k b given.sites-fit e
+      here = stored_here sites xs k b (omega (arith, given.fits)) e
 
       linked : Linked (cell vias w) D w k k (at ts) (at xs)
       linked =
@@ -100,15 +101,13 @@ module _ {vias D : List ℕ} {w k b : ℕ} {streets sites : List ℕ} (given : W
           }
 
   -- a step down finds what it needs
-  pub linkable : (l m : ℕ) {ts xs : List ℕ} → l + 1 ≡ m → m ≤ k → length ts ≡ length streets → length xs ≡ length sites
-      → Walking vias D w k m m ts xs → Linkable vias D w l ts xs
-  linkable l m {xs = xs} e n s t (h, o) =
+  pub linkable : (l m : ℕ) (ts xs : List ℕ) → l + 1 ≡ m → m ≤ k → Walking vias D w k m m ts xs → Linkable vias D w l xs
+  linkable l m ts xs e n (h, o) =
       let site : at xs (l + 1) < w = rw e (h.site m (omega arith) n) in
       record {
         row_fits = omega (arith, in_rows l k w (at xs (l + 1)) (omega arith) site, given.layers-fit);
         raised = rw e (h.next l e);
-        streets-fit = omega (arith, given.streets-fit);
-        sites-fit = omega (arith, given.sites-fit);
+        fits = omega (arith, given.fits);
       }
 
   -- one layer more: the street that raised the site above is one of the division, and its own site was raised a layer earlier
@@ -130,13 +129,13 @@ module _ {vias D : List ℕ} {w k b : ℕ} {streets sites : List ℕ} (given : W
       }
 
   -- after a step down the walk is linked down to layer l, and the sites above still differ
-  pub linked-step : (l m : ℕ) {ts xs new-ts new-xs : List ℕ} → l + 1 ≡ m → m ≤ k → Linkable vias D w l ts xs → Walking vias D w k m m ts xs
+  pub linked-step : (l m : ℕ) (ts xs : List ℕ) {new-ts new-xs : List ℕ} → l + 1 ≡ m → m ≤ k → l < length ts → l < length xs → Walking vias D w k m m ts xs
       → new-ts ≡ set ts l (cell vias w l (at xs (l + 1))) → new-xs ≡ set xs l (at D (cell vias w l (at xs (l + 1))))
       → Walking vias D w k l (l + 1) new-ts new-xs
-  linked-step l m {ts} {xs} {new-ts} {new-xs} e n fit (h, s) t x =
+  linked-step l m ts xs {new-ts} {new-xs} e n in-ts in-xs (h, s) t x =
       let street : ℕ = cell vias w l (at xs (l + 1)) in
-      let new-t : at new-ts l ≡ street = stored_here ts new-ts l street fit.streets-fit t in
-      let new-x : at new-xs l ≡ at D street = stored_here xs new-xs l (at D street) (omega (arith, fit.sites-fit)) x in
+      let new-t : at new-ts l ≡ street = stored_here ts new-ts l street in-ts t in
+      let new-x : at new-xs l ≡ at D street = stored_here xs new-xs l (at D street) in-xs x in
       let old-t : (q : ℕ) → l < q → at new-ts q ≡ at ts q = stored-above ts new-ts l street t in
       let old-x : (q : ℕ) → l < q → at new-xs q ≡ at xs q = stored-above xs new-xs l (at D street) x in
       let apart : Apart (at new-xs) (l + 1) k = λ p q a i z. rw (old-x p (omega arith), old-x q (omega arith)) (s p q (omega arith) i z) in

@@ -2,6 +2,7 @@
 -- l the street ts l stands at the site xs l and goes to the site xs (l + 1). The table of the streets that raised the sites has a row for each layer.
 -- Assumes nothing.
 use Rattle.std.specs.Prelude.{ℕ, zero, suc, ◌+◌, ◌*◌, ◌≤◌, ◌<◌, ◌≡◌, ◌≢◌, List, length, set, Option, MatchOption}
+use Rattle.counting.specs.Bounds.{most_width}
 use Rattle.counting.specs.Lists.{at, cell}
 
 -- a division after q moves of a chain that begins at layer i
@@ -15,24 +16,22 @@ pub record Trail (D : List ℕ) (ts xs : ℕ → ℕ) (i q : ℕ) : Type 0 where
   pub site : (l : ℕ) → i ≤ l → l < i + q → at D (ts l) ≡ xs l
   pub differ : (k l : ℕ) → i ≤ k → k < l → l < i + q → xs k ≢ xs l
 
--- a chain of at most n streets that a buffer of streets and one of sites hold
-pub record Moves (n : ℕ) (streets sites : List ℕ) (from count : ℕ) : Type 0 where
-  pub streets-fit : from + count ≤ length streets
-  pub sites-fit : from + count < length sites
+-- a chain of moves of n streets that a walk holds
+pub record Moves (n : ℕ) (streets : List ℕ) (from count : ℕ) : Type 0 where
+  pub fits : from + count ≤ most_width
   pub within : (l : ℕ) → from ≤ l → l < from + count → at streets l < n
 
 -- what a walk back from the site b, raised by the layer before k, is lent: a site raised by a street was raised because its street's own
 -- site was raised one layer earlier
-pub record Walkable (vias division : List ℕ) (w k b : ℕ) (streets sites : List ℕ) : Type 0 where
+pub record Walkable (vias division : List ℕ) (w k b : ℕ) : Type 0 where
   pub start : b < w
   pub raised : (p : ℕ) → p + 1 ≡ k → cell vias w p b < length division
   pub back : (l x : ℕ) → l + 1 < k → x < w → cell vias w (l + 1) x < length division
       → cell vias w l (at division (cell vias w (l + 1) x)) < length division
   pub sited : (s : ℕ) → s < length division → at division s < w
   pub layers-fit : k * w ≤ length vias
-  pub streets-fit : k ≤ length streets
-  pub sites-fit : k < length sites
-  pub few-sites : w ≤ 65
+  pub fits : k ≤ most_width
+  pub few-sites : w ≤ most_width
 
 -- the walk down to layer l, where it began at layer k
 pub record Linked (via : ℕ → ℕ → ℕ) (D : List ℕ) (w k l : ℕ) (ts xs : ℕ → ℕ) : Type 0 where
@@ -61,9 +60,8 @@ Found sites x place =
     MatchOption place ((p : ℕ) → p < length sites → at sites p ≢ x)
     (λ q. (q < length sites) × (at sites q ≡ x) × ((p : ℕ) → p < q → at sites p ≢ x))
 
--- what a step from layer l + 1 down to layer l is lent: the site above was raised by a street, and the buffers have room
-pub record Linkable (vias division : List ℕ) (w l : ℕ) (streets sites : List ℕ) : Type 0 where
+-- what a step from layer l + 1 down to layer l is lent: the site above was raised by a street, and there is room for the layer
+pub record Linkable (vias division : List ℕ) (w l : ℕ) (sites : List ℕ) : Type 0 where
   pub row_fits : l * w + at sites (l + 1) < length vias
   pub raised : cell vias w l (at sites (l + 1)) < length division
-  pub streets-fit : l < length streets
-  pub sites-fit : l + 1 < length sites
+  pub fits : l < most_width
