@@ -8,21 +8,12 @@ use native.Mathlib.Nat.{add-zero}
 use native.Mathlib.Decide.{dec_lt, ℕ_discrete}
 use native.Mathlib.Omega.{arith}
 use lib.ListN.{length, set, replicate, get_or-replicate}
-use Rattle.counting.specs.Bounds.{most_width, most_value, most_price}
+use Rattle.counting.specs.Bounds.{most_value, most_price}
 use Rattle.counting.specs.Lists.{at, cell}
-use Rattle.pairs.specs.Moves.{even, Pair, Row, Tables}
-use Rattle.pairs.proofs.TableRows.{RowIn, row-in-table}
+use Rattle.pairs.specs.Moves.{even, Pair, Row}
 use Rattle.pairs.proofs.Moves.{row-some, row-none}
 use Rattle.pairs.proofs.Stores.{stored, unstored}
 use Rattle.layers.specs.Layers.{Fitting, Layer, Lift, Lifts, Taking, Relaxing}
-
--- a site's row lies within both tables
-abbrev pub InTables : ℕ → ℕ → List ℕ → List ℕ → Type 0
-InTables a w pairs gains = RowIn a w (length gains) × RowIn a w (length pairs)
-
-pub row-in-tables : {values division pairs gains : List ℕ} {w : ℕ} (a : ℕ) → Tables values division w pairs gains → a < w → w ≤ most_width
-    → InTables a w pairs gains
-row-in-tables {w = w} a t l few = (row-in-table a w w t.gains-fit l (omega arith) few, row-in-table a w w t.pairs-fit l (omega arith) few)
 
 -- buffers of the same lengths fit as well
 pub fitting-same : {w n : ℕ} {after via shares after' via' : List ℕ} → Fitting w n after via shares → length after' ≡ length after
