@@ -23,31 +23,26 @@ use Rattle.chains.proofs.Improving.{Improving, inside}
 pub ring-closed : {via : ℕ → ℕ → ℕ} {D : List ℕ} {w k : ℕ} {ts xs : ℕ → ℕ} {from q : ℕ} → Walked via D w k ts xs from q → Closed D w ts xs from q
 ring-closed ring = record { trail = ring.trail; closed = ring.closed; site = ring.site }
 
-module _ {values shares D low prices vias pairs gains streets sites : List ℕ} (k : ℕ)
-    (h : Improving values shares D low prices vias pairs gains streets sites) (less : k < length shares) where
+module _ {values shares D low prices vias pairs gains : List ℕ} (k : ℕ)
+    (h : Improving values shares D low prices vias pairs gains) (less : k < length shares) where
   -- from a site that the last layer raised one can walk back
   pub walkable : {b : ℕ} → Searched values shares D (length shares) (k + 1) low prices vias
       → Raised (cell vias (length shares) k) (length D) (length shares) (length shares) (Some b)
-      → Walkable vias D (length shares) (k + 1) b streets sites
+      → Walkable vias D (length shares) (k + 1) b
   walkable s (o, top) = record {
     start = o;
     raised = λ p q. let same : k ≡ p = omega arith in rw same at top;
     back = raised_by s (inside D h.problem h.shared);
     sited = inside D h.problem h.shared;
     layers-fit = omega (arith, h.buffers.vias-fit, mul-le-mul_right {m = k + 1} {n = length shares} (length shares) (omega arith));
-    streets-fit = omega (arith, h.buffers.streets-fit);
-    sites-fit = omega (arith, h.buffers.sites-fit);
+    fits = omega (arith, h.problem.few-sites);
     few-sites = h.problem.few-sites;
   }
 
-  -- the buffers hold the chain that the walk back has found
-  pub ring-moves : {via : ℕ → ℕ → ℕ} {from q : ℕ} → Walked via D (length shares) (k + 1) (at streets) (at sites) from q
-      → Moves (length D) streets sites from q
-  ring-moves ring = record {
-    streets-fit = omega (arith, ring.fits, h.buffers.streets-fit);
-    sites-fit = omega (arith, ring.fits, h.buffers.sites-fit);
-    within = ring.trail.street;
-  }
+  -- the walk holds the chain that it has found
+  pub ring-moves : {via : ℕ → ℕ → ℕ} {streets : List ℕ} {xs : ℕ → ℕ} {from q : ℕ} → Walked via D (length shares) (k + 1) (at streets) xs from q
+      → Moves (length D) streets from q
+  ring-moves ring = record { fits = omega (arith, ring.fits, h.problem.few-sites); within = ring.trail.street }
 
 module _ {values shares D : List ℕ} {w k : ℕ} {low prices vias : List ℕ} {ts xs : ℕ → ℕ} {from q : ℕ}
     (h : Searched values shares D w k low prices vias) (sites : (s : ℕ) → s < length D → at D s < w)

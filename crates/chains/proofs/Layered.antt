@@ -14,7 +14,7 @@ use Rattle.counting.proofs.Parts.{part, put, part_length, part_at, put-length, p
 use Rattle.division.specs.Shares.{InShares}
 use Rattle.division.specs.Problem.{Problem, tail}
 use Rattle.layers.specs.Layers.{Layerable, Fitting, Layer}
-use Rattle.chains.specs.Chains.{Searched, Raised}
+use Rattle.chains.specs.Chains.{Buffers, Searched, Raised}
 use Rattle.chains.proofs.Search.{layer-same, searched-next}
 use Rattle.chains.proofs.Improving.{inside}
 
@@ -37,9 +37,7 @@ pub record Deepening (values shares division : List ℕ) (k : ℕ) (low prices v
   pub problem : Problem values shares (length division)
   pub shared : InShares division (tail shares)
   pub less : k < length shares
-  pub low_fits : length low ≡ length shares
-  pub prices-fit : length prices ≡ (length shares + 1) * length shares
-  pub vias-fit : length vias ≡ length shares * length shares
+  pub buffers : Buffers (length shares) low prices vias
   pub searched : Searched values shares division (length shares) k low prices vias
 
 -- row k of the raising streets and row k + 1 of the prices lie in their tables, which are small
@@ -53,16 +51,16 @@ module _ {values shares division : List ℕ} {k : ℕ} {low prices vias : List �
   room =
       let w : ℕ = length shares in
       record {
-        in-vias = omega (arith, h.vias-fit, row_within w w k h.less);
-        in-prices = omega (arith, h.prices-fit, row_within (w + 1) w (k + 1) (omega (arith, h.less)));
-        small = omega (arith, h.prices-fit, h.problem.few-sites, mul-le-mul_right {m = w} {n = most_width} w h.problem.few-sites);
+        in-vias = omega (arith, h.buffers.vias-fit, row_within w w k h.less);
+        in-prices = omega (arith, h.buffers.prices-fit, row_within (w + 1) w (k + 1) (omega (arith, h.less)));
+        small = omega (arith, h.buffers.prices-fit, h.problem.few-sites, mul-le-mul_right {m = w} {n = most_width} w h.problem.few-sites);
       }
 
   -- the last prices are what a layer can be made of
   pub layerable : Layerable low values division
   layerable = record {
-    size = rw h.low_fits h.problem.size;
-    sites = λ s l. omega (arith, h.low_fits, inside division h.problem h.shared s l);
+    size = rw h.buffers.low_fits h.problem.size;
+    sites = λ s l. omega (arith, h.buffers.low_fits, inside division h.problem h.shared s l);
     small = h.problem.small;
     low = λ a. omega (arith, h.searched.small a, h.less, h.problem.few-sites);
   }
@@ -73,11 +71,11 @@ module _ {values shares division : List ℕ} {k : ℕ} {low prices vias : List �
   fitted =
       let w : ℕ = length shares in
       record {
-        after-fits = omega (arith, h.low_fits, part_length (k * w + w) (k * w + w + w) prices room.in-prices);
-        via-fits = omega (arith, h.low_fits, part_length (k * w) (k * w + w) vias room.in-vias);
-        shares-fit = sym h.low_fits;
+        after-fits = omega (arith, h.buffers.low_fits, part_length (k * w + w) (k * w + w + w) prices room.in-prices);
+        via-fits = omega (arith, h.buffers.low_fits, part_length (k * w) (k * w + w) vias room.in-vias);
+        shares-fit = sym h.buffers.low_fits;
         few = h.problem.few;
-        few-sites = omega (arith, h.low_fits, h.problem.few-sites);
+        few-sites = omega (arith, h.buffers.low_fits, h.problem.few-sites);
       }
 
   -- with the layer written, the search is one layer deeper
@@ -105,7 +103,7 @@ module _ {values shares division : List ℕ} {k : ℕ} {low prices vias : List �
       let next : (b : ℕ) → (k + 1) * w + b ≡ to + b = λ b. omega arith in
       let low-length : length low' ≡ w = rw c (omega (arith, part_length to end prices' (omega arith))) in
       let sites = inside division h.problem h.shared in
-      let layer = layer-same sites (λ b l. refl) (λ b l. sym (price b l ∙ added b l)) (λ b l. refl) (rw h.low_fits at new) in
+      let layer = layer-same sites (λ b l. refl) (λ b l. sym (price b l ∙ added b l)) (λ b l. refl) (rw h.buffers.low_fits at new) in
       searched-next h.searched sites via h.problem.small low-length
       (λ i l. rw p (put-before to end prices in-prices after (omega arith) row i (omega arith)))
       (λ b l. rw (next b) (sym (price b l)))
@@ -131,7 +129,7 @@ module _ {values shares division : List ℕ} {k : ℕ} {low prices vias : List �
       new = with_row from w vias via
 
       long : length low' ≡ w
-      long = e ∙ h.low_fits
+      long = e ∙ h.buffers.low_fits
 
       in-new : from + w ≤ length new
       in-new = written from w vias via room.in-vias fits

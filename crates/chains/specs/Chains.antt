@@ -7,15 +7,11 @@ use Rattle.counting.specs.Lists.{at, cell}
 use Rattle.layers.specs.Layers.{Layer}
 use Rattle.rings.specs.Rings.{Trail}
 
--- buffers that hold a search: its last prices, the prices and the raising streets of all layers, the best moves, and the walk back
-pub record Buffers (w : ℕ) (low prices vias pairs gains streets sites : List ℕ) : Type 0 where
+-- buffers that hold a search: its last prices, and the prices and the raising streets of all layers
+pub record Buffers (w : ℕ) (low prices vias : List ℕ) : Type 0 where
   pub low_fits : length low ≡ w
   pub prices-fit : length prices ≡ (w + 1) * w
   pub vias-fit : length vias ≡ w * w
-  pub pairs-fit : length pairs ≡ w * w
-  pub gains-fit : length gains ≡ w * w
-  pub streets-fit : length streets ≡ w
-  pub sites-fit : length sites ≡ w + 1
 
 -- a search after k layers: row l of the prices is made from the row before, and `low` is row k
 pub record Searched (values shares division : List ℕ) (w k : ℕ) (low prices vias : List ℕ) : Type 0 where

@@ -1,9 +1,11 @@
 // The loops of the search besides its layers: the site that was raised highest, and the total.
 ghost use Rattle.std.specs.Prelude.{◌≡◌, ℕ, ◌+◌, ◌<◌, length, IfSome};
-ghost use Rattle.counting.specs.Lists.{at, cell};
+ghost use Rattle.counting.specs.Lists.{at};
 ghost use Rattle.division.specs.Shares.{division_total};
-ghost use Rattle.pairs.specs.Moves.{Valued};
+ghost use Rattle.pairs.specs.BestMoves.{Fits, value_of};
 ghost use Rattle.chains.specs.Chains.{Raised};
+
+use pairs::Problem;
 
 // The higher of the best raised site so far and one site more.
 fn higher(prices: &[u32], via: &[u16], n: usize, top: Option<usize>, b: usize) -> Option<usize>
@@ -33,13 +35,15 @@ pub fn highest(prices: &[u32], via: &[u16], n: usize) -> Option<usize>
 }
 
 // The total of a division.
-pub fn sum(values: &[u32], w: usize, division: &[u8]) -> u32
-    requires { Valued values.now division.now w × ((s : ℕ) → s < length division.now → at division.now s < w) }
-    ensures { result ≡ division_total (cell values.now w) division.now }
+pub fn sum(problem: &Problem, division: &[u8]) -> u32
+    requires { Fits problem.now division.now
+        × ((s : ℕ) → s < length division.now → at division.now s < length problem.now.shares.now) }
+    ensures { result ≡ division_total (value_of problem.now) division.now }
 {
+    let w = problem.shares.len();
     let mut total = 0;
     for (s, site) in division.iter().enumerate() {
-        total += values[s * w + usize::from(*site)];
+        total += problem.values[s * w + usize::from(*site)];
     }
     total
 }

@@ -6,12 +6,9 @@ use Rattle.chains.proofs.turn.Goals as goal
 pub mend-requires : goal.mend-requires
 mend-requires c =
     let p = c.requires in
-    let sites = c.args.sites.now in
-    let tables = p.tables_2 in
-    let fits = p.moves.sites-fit in
+    let sites = c.args.walk.now.sites in
     record {
-      valued = valued_same c.shift.auto.division p.valued;
-      pairs_len = (tables.pairs-fit, tables.gains-fit);
-      by_index = ring-sites sites p.closed (omega arith);
-      mended = ring-mends sites tables p.closed (omega arith) c.shift.ensures;
+      fits = valued_same c.shift.auto.division p.valued;
+      by_index = ring-sites sites p.closed (omega (arith, p.moves.fits));
+      mended = ring-mends sites p.tables_2 p.closed (omega (arith, p.moves.fits)) c.shift.ensures;
     }
