@@ -117,7 +117,8 @@ module _ {values shares division : List ℕ} {k : ℕ} {low prices vias : List �
       → Raised (cell (with_row (k * length shares) (length shares) vias via) (length shares) k) n (length shares) (length shares) r
   raised-row via low' n r fits e top =
       elim r as (λ x. Raised (at (row_at from w new)) n (length low') (length low') x → Raised (cell new w k) n w w x)
-      [ None ↦ λ h b m. omega (arith, same b m, h b (omega (arith, long))) | Some x ↦ λ h. let (l, m) = h in (omega (arith, long), omega (arith, same x (omega (arith, long)))) ] top
+      [ None ↦ λ h b m. omega (arith, same b m, h b (omega (arith, long)))
+      | Some x ↦ λ h. let (l, m) = h in (omega (arith, long), omega (arith, same x (omega (arith, long)))) ] top
     where
       w : ℕ
       w = length shares

@@ -59,7 +59,8 @@ fn meet(
 // The best moves from the site a, over all streets. A gain of 0 says that no street has been looked at.
 pub fn rebuild(problem: &Problem, division: &[u8], a: usize, pairs: &mut [u16], gains: &mut [u32])
     requires fits { Fits problem.now division.now }
-    requires a_lt_w { (a < length problem.now.shares.now) × (length pairs.old ≡ length problem.now.shares.now) × (length gains.old ≡ length problem.now.shares.now) }
+    requires a_lt_w { a < length problem.now.shares.now }
+    requires pairs_len { (length pairs.old ≡ length problem.now.shares.now) × (length gains.old ≡ length problem.now.shares.now) }
     ensures { Row (value_of problem.now) (at division.now)
         a (length division.now) (length division.now) (length problem.now.shares.now) (at gains.new) (at pairs.new) }
 {

@@ -50,7 +50,8 @@ pub next-move : (streets sites : List ℕ) (from count q t x : ℕ) → from + c
     → (q < count) × (t ≡ at streets (from + q)) × (x ≡ at sites (from + q + 1))
 next-move streets sites from count q t x fits (low, behind, street, site) =
     let less : q < count = omega (arith, low, part_length from (from + count) streets fits) in
-    let within : from + 1 + q < length sites = omega (arith, behind, length-take (length sites - (from + 1)) (drop (from + 1) sites), length-drop (from + 1) sites) in
+    let long = length-take (length sites - (from + 1)) (drop (from + 1) sites) in
+    let within : from + 1 + q < length sites = omega (arith, behind, long, length-drop (from + 1) sites) in
     let place : from + q + 1 ≡ from + 1 + q = omega arith in (
       less,
       street 0 ∙ part_at from (from + count) streets fits q (omega arith),

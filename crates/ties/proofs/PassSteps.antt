@@ -182,5 +182,5 @@ module _ {values shares prices D tights ends limits : List ℕ} {s : ℕ} (pass 
     pass-swapped {b} {t} aim later back other e r =
         let turned = swapped l later (λ q. omega (arith, aim.within)) in
         let total = turned.total v (at prices) (λ j m o. let q : j ≡ 1 = omega arith in rw q back) aim.tight in
-        pass-aimed (omega (arith, aim.within)) aim.loose (set (set D t (at D s)) s b) turned.long (λ z. turned.counts z ∙ h.within z) total turned.before turned.moved other e
-        (limits-own (limits-move pass.limited other t (at D s) later.street r) b)
+        pass-aimed (omega (arith, aim.within)) aim.loose (set (set D t (at D s)) s b) turned.long (λ z. turned.counts z ∙ h.within z) total
+        turned.before turned.moved other e (limits-own (limits-move pass.limited other t (at D s) later.street r) b)

@@ -28,7 +28,8 @@ best-total-requires c =
     let m = c.args.numbering.now in
     let fits : m.count ≤ length m.few = omega (arith, p.numbered.fewer, p.problem.0.few-sites) in
     let h = numbered-front p.numbered fits in
-    let size : length table ≡ length D * length (take m.count m.few) = c.fill.auto.table ∙ p.table_len.0 ∙ ap (λ x. length D * x) (sym (length-take-le m.count m.few fits)) in
+    let size : length table ≡ length D * length (take m.count m.few) =
+    c.fill.auto.table ∙ p.table_len.0 ∙ ap (λ x. length D * x) (sym (length-take-le m.count m.few fits)) in
     let long = few-length p.problem.0 h D refl p.problem.1 N c.rename.ensures in
     (same-problem D N long (few-problem p.problem.0 h table size c.fill.ensures), few-in p.problem.0 h D refl p.problem.1 N c.rename.ensures)
 

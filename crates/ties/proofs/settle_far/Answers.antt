@@ -12,7 +12,11 @@ lowest-place-requires c =
     let p = c.requires in
     let g = c.grow.ensures in
     let table = priced-table p.pass in
-    record { fits = table; s_in_bounds = (p.s_in_bounds, g.some, omega (arith, placed-fits g.placed, table.few-sites), g.queue.start); by_index = g.placed.within }
+    record {
+      fits = table;
+      s_in_bounds = (p.s_in_bounds, g.some, omega (arith, placed-fits g.placed, table.few-sites), g.queue.start);
+      by_index = g.placed.within;
+    }
 
 pub turn-requires : goal.turn-requires
 turn-requires c =

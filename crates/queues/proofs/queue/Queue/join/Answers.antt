@@ -35,4 +35,5 @@ returns-then-tight-clause-by_index c =
     let sites = rw (← e.sites) at (grows q.sites q.count x (omega (arith, j.few))) in
     let streets = rw (← e.streets) at (grows q.streets q.count c.args.t (omega (arith, j.few))) in
     let nexts = rw (← e.nexts) at (grows q.nexts q.count c.args.i (omega (arith, j.few))) in
-    λ s l h. rw (e.count, e.flags) (growing-more h l p.i_lt_count.1 j.small (omega (arith, j.small, j.few-sites)) new here r.sites r.streets r.nexts sites streets nexts)
+    λ s l h. rw (e.count, e.flags)
+    (growing-more h l p.i_lt_count.1 j.small (omega (arith, j.small, j.few-sites)) new here r.sites r.streets r.nexts sites streets nexts)

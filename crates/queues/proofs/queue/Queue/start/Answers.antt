@@ -10,4 +10,5 @@ returns-clause-placed c =
     let a = at c.args.division.now c.args.s in
     let clear = c.fill.ensures in
     rw c.from.ensures
-    (λ w small. placed-start w a (length old.flags) old.sites c.fill.new.self small (omega arith) (omega (arith, clear.len, c.requires.1)) (clear.after (λ y e. e)))
+    (λ w small. placed-start w a (length old.flags) old.sites c.fill.new.self small (omega arith)
+    (omega (arith, clear.len, c.requires.1)) (clear.after (λ y e. e)))
