@@ -116,9 +116,10 @@ module _ {values shares division : List ℕ} {k : ℕ} {low prices vias : List �
       → Raised (at (row_at (k * length shares) (length shares) (with_row (k * length shares) (length shares) vias via))) n (length low') (length low') r
       → Raised (cell (with_row (k * length shares) (length shares) vias via) (length shares) k) n (length shares) (length shares) r
   raised-row via low' n r fits e top =
-      elim r as (λ x. Raised (at (row_at from w new)) n (length low') (length low') x → Raised (cell new w k) n w w x)
-      [ None ↦ λ h b m. omega (arith, same b m, h b (omega (arith, long)))
-      | Some x ↦ λ h. let (l, m) = h in (omega (arith, long), omega (arith, same x (omega (arith, long)))) ] top
+      elim r as (λ x. Raised (at (row_at from w new)) n (length low') (length low') x → Raised (cell new w k) n w w x) [
+        | None ↦ λ h b m. omega (arith, same b m, h b (omega (arith, long)))
+        | Some x ↦ λ h. let (l, m) = h in (omega (arith, long), omega (arith, same x (omega (arith, long))))
+      ] top
     where
       w : ℕ
       w = length shares

@@ -37,15 +37,6 @@ pub layer-same : {v : ℕ → ℕ → ℕ} {d d' D c e e' t t' : ℕ → ℕ} {n
     → ((b : ℕ) → b < w → e b ≡ e' b) → ((b : ℕ) → b < w → t b ≡ t' b) → Layer v d D c n w e t → Layer v d' D c n w e' t'
 layer-same {D = D} sites before after by h b l = rw (← after b l, ← by b l) (site-same (before b l) (λ s m. before (D s) (sites s m)) (h b l))
 
--- before the first layer all prices are 0
-pub searched-start : {values shares division : List ℕ} {w : ℕ} {low prices vias : List ℕ} → ((a : ℕ) → at low a ≡ 0)
-    → ((b : ℕ) → b < w → at prices b ≡ 0) → Searched values shares division w 0 low prices vias
-searched-start {w = w} none first = record {
-  last = λ b l. let here : 0 * w + b ≡ b = omega arith in none b ∙ sym (rw here (first b l));
-  layers = λ l m. absurd (omega arith);
-  small = λ a. omega (arith, none a);
-}
-
 module _ {values shares division : List ℕ} {w k : ℕ} {low prices vias : List ℕ} (h : Searched values shares division w k low prices vias)
     (sites : (s : ℕ) → s < length division → at division s < w) where
   -- a layer more, whose prices and raising streets stand behind those of the layers before

@@ -1,12 +1,11 @@
 -- Laws of the search's loops: what they hold from turn to turn and at their ends.
 -- Assumes nothing.
-use mathlib.Core.Path.{◌≡◌, refl, ap, ◌∙◌}
+use mathlib.Core.Path.{◌≡◌, refl, ◌∙◌}
 use mathlib.Core.List.{List, ◌++◌}
 use Prim.Native.Nat.{ℕ, ◌+◌, ◌<◌}
 use native.Mathlib.Numerals.{add-one}
 use native.Mathlib.Omega.{arith}
 use lib.ListN.{length, take, replicate, length-replicate, get_or-append}
-use lib.Seq.{take-length}
 use Rattle.counting.specs.Lists.{at}
 use Rattle.pairs.proofs.Moves.{zeros_at}
 use Rattle.division.specs.Shares.{division_total}
@@ -27,7 +26,3 @@ sum-start v D = refl
 pub sum-next : (v : ℕ → ℕ → ℕ) (D : List ℕ) (s t x : ℕ) → s < length D → t ≡ division_total v (take s D) → x ≡ v s (at D s)
     → t + x ≡ division_total v (take (s + 1) D)
 sum-next v D s t x l e q = rw add-one (omega (arith, division_total-suc v D s l))
-
--- and the total is whole at the end
-pub sum_done : (v : ℕ → ℕ → ℕ) (D : List ℕ) (s t : ℕ) → s ≡ length D → t ≡ division_total v (take s D) → t ≡ division_total v D
-sum_done v D s t l e = e ∙ ap (λ (E : List ℕ). division_total v E) (ap (λ (i : ℕ). take i D) l ∙ take-length D)

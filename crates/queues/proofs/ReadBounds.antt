@@ -6,20 +6,14 @@ use mathlib.Core.List.{List}
 use Prim.Native.Nat.{ℕ, ◌+◌, ◌*◌, ◌≤◌, ◌<◌}
 use native.Mathlib.Nat.{mul-le-mul}
 use native.Mathlib.Omega.{arith}
-use lib.Dec.{eqb}
 use lib.ListN.{length}
-use borrow.Author.Tests.{eqb-true, eqb-false}
 use Rattle.counting.specs.Bounds.{most_streets, most_width, most_entries, most_value, most_price}
 use Rattle.counting.specs.Lists.{at, cell}
 use Rattle.counting.proofs.Tables.{in_rows}
-use Rattle.queues.specs.Queue.{PricedTable, Tells, flag, Placed, Grown}
+use Rattle.queues.specs.Queue.{PricedTable, flag, Placed, Grown}
 use Rattle.queues.specs.Tights.{RowOf, Rowed, most_tights}
 use Rattle.queues.proofs.QueueGrowth.{placed-room}
 use Rattle.queues.proofs.TightRows.{place-row, row_fits}
-
--- a test of two numbers says whether they are equal
-pub tells-equal : (a b : ℕ) → Tells (eqb a b) (a ≡ b)
-tells-equal a b = (eqb-true a b, eqb-false a b)
 
 -- what a test of a street t and a site y reads, and the sums that it compares
 pub record Weighed (values prices : List ℕ) (w t x y : ℕ) : Type 0 where

@@ -33,17 +33,6 @@ module _ {v : ℕ → ℕ → ℕ} {d : ℕ → ℕ} {D : List ℕ} where
       }
 
   module _ {tights : List ℕ} {r e y u : ℕ} (h : Row v d D tights r e y u) where
-    -- a street that is not tight stays out
-    pub row_keep : (Tight v d D u y → ⊥) → Row v d D tights r e y (u + 1)
-    row_keep loose =
-        record {
-          fits = omega (arith, h.fits);
-          bottom = h.bottom;
-          street = λ j l m. omega (arith, h.street j l m);
-          gap = h.gap;
-          above = below_more (λ t. at tights (r + e) < t → Tight v d D t y → ⊥) u h.above (λ l. loose);
-        }
-
     -- a place that is not 0 is not the first
     pub row-some : (j : ℕ) → 0 < at tights (r + j) → 0 < j
     row-some j m =
@@ -95,11 +84,6 @@ module _ {v : ℕ → ℕ → ℕ} {d : ℕ → ℕ} {D : List ℕ} where
   pub row-stored : {tights : List ℕ} (ends : List ℕ) (y e : ℕ) → y < length ends → Row v d D tights (y * (length D + 1)) e y (length D)
       → RowOf v d D tights (set ends y e) y
   row-stored ends y e l h = rw (get_or-set_same ends y e 0 l) h
-
-  -- the site k has no share, and needs no row
-  pub listed-skip : (shares tights ends : List ℕ) (k : ℕ) → at shares k ≡ 0 → Listed v d D shares k tights ends → Listed v d D shares (k + 1) tights ends
-  listed-skip shares tights ends k e h =
-      below_more (λ y. 0 < at shares y → RowOf v d D tights ends y) k h (λ l. absurd (omega arith))
 
   -- the site k has its row, and those below it have kept theirs
   pub listed_more : (shares tights ends : List ℕ) (k : ℕ) (now now_ends : List ℕ) → Agree tights now (k * (length D + 1)) → Agree ends now_ends k
