@@ -1,12 +1,11 @@
 -- Laws of the buffers that the two passes are lent, and of the best division's total.
 -- Assumes nothing.
 use mathlib.Core.Path.{◌≡◌, sym, ◌∙◌}
-use mathlib.Core.Bool.{false}
 use mathlib.Core.List.{List, ◌++◌}
 use Prim.Native.Nat.{ℕ, ◌+◌, ◌*◌, ◌≤◌}
 use native.Mathlib.Nat.{mul-le-mul_right, le_antisymm}
 use native.Mathlib.Omega.{arith}
-use lib.ListN.{length, take, replicate, length-replicate}
+use lib.ListN.{length, take, replicate}
 use Rattle.counting.specs.Bounds.{most_width, most_price}
 use Rattle.counting.specs.Lists.{at}
 use Rattle.counting.proofs.Parts.{front_length, back_is}
@@ -18,7 +17,6 @@ use Rattle.division.proofs.Counts.{in-length}
 use Rattle.division.proofs.Best.{divide-in, divide-most}
 use Rattle.division.proofs.Dual.{weak}
 use Rattle.chains.specs.Chains.{Buffers}
-use Rattle.queues.specs.Queue.{Room}
 
 -- the cells of a table of a row and a column for each of the most sites, and of one of a row more
 abbrev pub most_area : ℕ
@@ -33,25 +31,10 @@ areas w few = (omega (arith, mul-le-mul_right {m = w} {n = most_width} w few), o
 
 -- the improving loop's buffers fit
 pub buffers : (w : ℕ) (low : List ℕ) → w ≤ most_width → length low ≡ w
-    → Buffers w low (take ((w + 1) * w) (replicate most_areas 0)) (take (w * w) (replicate most_area 0)) (take (w * w) (replicate most_area 0))
-    (take (w * w) (replicate most_area 0)) (take w (replicate most_width 0)) (take (w + 1) (replicate (most_width + 1) 0))
+    → Buffers w low (take ((w + 1) * w) (replicate most_areas 0)) (take (w * w) (replicate most_area 0))
 buffers w low few fits =
     let (area, all) = areas w few in
-    record {
-      low_fits = fits;
-      prices-fit = front_length ((w + 1) * w) most_areas all;
-      vias-fit = front_length (w * w) most_area area;
-      pairs-fit = front_length (w * w) most_area area;
-      gains-fit = front_length (w * w) most_area area;
-      streets-fit = front_length w most_width few;
-      sites-fit = front_length (w + 1) (most_width + 1) (omega arith);
-    }
-
--- so do the tie pass's
-pub room : (w : ℕ) → w ≤ most_width → Room w (replicate most_width 0) (replicate most_width 0) (replicate most_width 0) (replicate most_width false)
-room w few =
-    let fits : w ≤ length (replicate {A = ℕ} most_width 0) = rw length-replicate few in
-    record { streets-fit = fits; nexts-fit = fits; sites-fit = fits; flags-fit = rw length-replicate few }
+    record { low_fits = fits; prices-fit = front_length ((w + 1) * w) most_areas all; vias-fit = front_length (w * w) most_area area }
 
 -- prices that prove a division best prove its total to be that of the best division
 pub best-total : (v : ℕ → ℕ → ℕ) (d : ℕ → ℕ) (c D : List ℕ) → InShares D c → Priced v d c D → division_total v D ≡ division_total v (divide v (length D) c)

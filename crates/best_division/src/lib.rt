@@ -8,70 +8,39 @@ ghost use Rattle.counting.specs.Lists.{at, cell};
 ghost use Rattle.division.specs.Prices.{Priced};
 ghost use Rattle.division.specs.Shares.{InShares, division_total};
 ghost use Rattle.division.specs.Divide.{divide};
-ghost use Rattle.division.specs.Problem.{Problem, tail};
+ghost use Rattle.pairs.specs.BestMoves.{value_of};
+ghost use Rattle.division.specs.Problem.{Problem as IsProblem, tail};
 
 use counting::WIDTH;
+use pairs::Problem;
+use queues::price_table::PriceTable;
 
 // The improving loop with buffers of its own; prices that prove the division best are left in `low`.
-fn improve(values: &[u32], shares: &[u16], division: &mut [u8], low: &mut [u32]) -> u32
-    requires { Problem values.now shares.now (length division.old) × InShares division.old (tail shares.now)
-        × (length low.old ≡ length shares.now) }
-    ensures total { result ≡ division_total (cell values.now (length shares.now)) division.new }
-    ensures shares { InShares division.new (tail shares.now) }
+fn improve(problem: &Problem, division: &mut [u8], low: &mut [u32]) -> u32
+    requires { IsProblem problem.now.values.now problem.now.shares.now (length division.old) × InShares division.old (tail problem.now.shares.now)
+        × (length low.old ≡ length problem.now.shares.now) }
+    ensures total { result ≡ division_total (value_of problem.now) division.new }
+    ensures shares { InShares division.new (tail problem.now.shares.now) }
     ensures best { ((a : ℕ) → at low.new a ≤ most_price)
-        × Priced (cell values.now (length shares.now)) (at low.new) (tail shares.now) division.new }
+        × Priced (value_of problem.now) (at low.new) (tail problem.now.shares.now) division.new }
 {
-    let w = shares.len();
-    let area = w * w;
+    let w = problem.shares.len();
     let all = (w + 1) * w;
-    let mut prices = [0u32; (WIDTH + 1) * WIDTH];
-    let mut vias = [0u16; WIDTH * WIDTH];
-    let mut pairs = [0u16; WIDTH * WIDTH];
-    let mut gains = [0u32; WIDTH * WIDTH];
-    let mut streets = [0u16; WIDTH];
-    let mut sites = [0u8; WIDTH + 1];
+    let area = w * w;
+    let mut prices = [0; (WIDTH + 1) * WIDTH];
+    let mut vias = [0; WIDTH * WIDTH];
     chains::improve(
-        values,
-        shares,
+        problem,
         division,
         low,
         &mut prices[..all],
         &mut vias[..area],
-        &mut pairs[..area],
-        &mut gains[..area],
-        &mut streets[..w],
-        &mut sites[..w + 1],
     )
-}
-
-// The tie pass with buffers of its own.
-fn settle(values: &[u32], shares: &[u16], prices: &[u32], division: &mut [u8])
-    requires problem { Problem values.now shares.now (length division.old) }
-    requires in_shares { InShares division.old (tail shares.now) }
-    requires prices_len { (length prices.now ≡ length shares.now) × ((a : ℕ) → at prices.now a ≤ most_price) }
-    requires priced { Priced (cell values.now (length shares.now)) (at prices.now) (tail shares.now) division.old }
-    ensures { division.new
-        ≡ divide (cell values.now (length shares.now)) (length division.old) (tail shares.now) }
-{
-    let mut streets = [0u16; WIDTH];
-    let mut nexts = [0u8; WIDTH];
-    let mut sites = [0u8; WIDTH];
-    let mut flags = [false; WIDTH];
-    ties::settle(
-        values,
-        shares,
-        prices,
-        division,
-        &mut streets,
-        &mut nexts,
-        &mut sites,
-        &mut flags,
-    );
 }
 
 // Any division in the shares becomes the best one, and its total is returned.
 pub fn best(values: &[u32], shares: &[u16], division: &mut [u8]) -> u32
-    requires { Problem values.now shares.now (length division.old) × InShares division.old (tail shares.now) }
+    requires { IsProblem values.now shares.now (length division.old) × InShares division.old (tail shares.now) }
     ensures total { result ≡ division_total (cell values.now (length shares.now))
         (divide (cell values.now (length shares.now)) (length division.old) (tail shares.now)) }
     ensures division { division.new
@@ -79,7 +48,12 @@ pub fn best(values: &[u32], shares: &[u16], division: &mut [u8]) -> u32
 {
     let w = shares.len();
     let mut low = [0u32; WIDTH];
-    let total = improve(values, shares, division, &mut low[..w]);
-    settle(values, shares, &low[..w], division);
+    let total = improve(&Problem { values, shares }, division, &mut low[..w]);
+    let table = PriceTable {
+        values,
+        shares,
+        prices: &low[..w],
+    };
+    ties::settle(&table, division);
     total
 }

@@ -17,11 +17,11 @@ use Rattle.rings.proofs.Moved.{moved_length, closed_in}
 use Rattle.chains.specs.Chains.{Buffers, Closed}
 
 -- a division in the shares with its best moves, and buffers for the search
-pub record Improving (values shares division low prices vias pairs gains streets sites : List ℕ) : Type 0 where
+pub record Improving (values shares division low prices vias pairs gains : List ℕ) : Type 0 where
   pub problem : Problem values shares (length division)
   pub shared : InShares division (tail shares)
   pub tables : Tables values division (length shares) pairs gains
-  pub buffers : Buffers (length shares) low prices vias pairs gains streets sites
+  pub buffers : Buffers (length shares) low prices vias
 
 -- each street's site is below the width
 pub inside : {values shares : List ℕ} (division : List ℕ) → Problem values shares (length division) → InShares division (tail shares)
@@ -36,54 +36,26 @@ valued problem = record { size = problem.size; small = problem.small; few = prob
 pub valued_same : {values D E : List ℕ} {w : ℕ} → length E ≡ length D → Valued values D w → Valued values E w
 valued_same e h = record { size = rw e h.size; small = h.small; few = omega (arith, h.few); few-sites = h.few-sites }
 
--- with the best moves made, the loop can begin
-pub started : {values shares D low prices vias pairs gains streets sites pairs' gains' : List ℕ} → Problem values shares (length D)
-    → InShares D (tail shares) → Buffers (length shares) low prices vias pairs gains streets sites → Tables values D (length shares) pairs' gains'
-    → Improving values shares D low prices vias pairs' gains' streets sites
-started problem shared f tables = record {
-  problem = problem;
-  shared = shared;
-  tables = tables;
-  buffers = record {
-    low_fits = f.low_fits;
-    prices-fit = f.prices-fit;
-    vias-fit = f.vias-fit;
-    pairs-fit = tables.pairs-fit;
-    gains-fit = tables.gains-fit;
-    streets-fit = f.streets-fit;
-    sites-fit = f.sites-fit;
-  };
-}
-
-module _ {values shares D low prices vias pairs gains streets sites : List ℕ}
-    (h : Improving values shares D low prices vias pairs gains streets sites) where
+module _ {values shares D low prices vias pairs gains : List ℕ}
+    (h : Improving values shares D low prices vias pairs gains) where
   -- a step of the search leaves the division and its best moves as they are
-  pub improving-on : {low' prices' vias' streets' sites' : List ℕ} → length low' ≡ length low → length prices' ≡ length prices
-      → length vias' ≡ length vias → length streets' ≡ length streets → length sites' ≡ length sites
-      → Improving values shares D low' prices' vias' pairs gains streets' sites'
-  improving-on a b c d e =
+  pub improving-on : {low' prices' vias' : List ℕ} → length low' ≡ length low → length prices' ≡ length prices
+      → length vias' ≡ length vias → Improving values shares D low' prices' vias' pairs gains
+  improving-on a b c =
       let f = h.buffers in
       record {
         problem = h.problem;
         shared = h.shared;
         tables = h.tables;
-        buffers = record {
-          low_fits = a ∙ f.low_fits;
-          prices-fit = b ∙ f.prices-fit;
-          vias-fit = c ∙ f.vias-fit;
-          pairs-fit = f.pairs-fit;
-          gains-fit = f.gains-fit;
-          streets-fit = d ∙ f.streets-fit;
-          sites-fit = e ∙ f.sites-fit;
-        };
+        buffers = record { low_fits = a ∙ f.low_fits; prices-fit = b ∙ f.prices-fit; vias-fit = c ∙ f.vias-fit };
       }
 
   -- a closed chain leaves a division in the shares
   pub improved : {E pairs' gains' : List ℕ} {ts xs : ℕ → ℕ} {from q : ℕ} → Closed D (length shares) ts xs from q → E ≡ moved D ts xs from q
-      → Tables values E (length shares) pairs' gains' → Improving values shares E low prices vias pairs' gains' streets sites
+      → Tables values E (length shares) pairs' gains' → Improving values shares E low prices vias pairs' gains'
   improved {ts = ts} {xs} {from} {q} ring e tables =
       let problem : Problem values shares (length (moved D ts xs from q)) = rw (moved_length D ts xs from q) h.problem in
-      started (rw e problem) (rw e (closed_in ring.trail ring.closed (tail shares) h.shared)) h.buffers tables
+      record { problem = rw e problem; shared = rw e (closed_in ring.trail ring.closed (tail shares) h.shared); tables = tables; buffers = h.buffers }
 
   -- the last prices are no more than all prices
   pub begun : length low ≤ length prices

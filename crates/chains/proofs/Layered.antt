@@ -6,6 +6,7 @@ use Prim.Native.Nat.{ℕ, ◌+◌, ◌*◌, ◌-◌, ◌≤◌, ◌<◌}
 use native.Mathlib.Nat.{mul-le-mul_right}
 use native.Mathlib.Omega.{arith}
 use lib.ListN.{length}
+use Rattle.std.specs.Prelude.{Option, Some, None}
 use Rattle.counting.specs.Bounds.{most_width}
 use Rattle.counting.specs.Lists.{at, cell}
 use Rattle.counting.proofs.Tables.{row_within}
@@ -13,7 +14,7 @@ use Rattle.counting.proofs.Parts.{part, put, part_length, part_at, put-length, p
 use Rattle.division.specs.Shares.{InShares}
 use Rattle.division.specs.Problem.{Problem, tail}
 use Rattle.layers.specs.Layers.{Layerable, Fitting, Layer}
-use Rattle.chains.specs.Chains.{Searched, Raised}
+use Rattle.chains.specs.Chains.{Buffers, Searched, Raised}
 use Rattle.chains.proofs.Search.{layer-same, searched-next}
 use Rattle.chains.proofs.Improving.{inside}
 
@@ -36,9 +37,7 @@ pub record Deepening (values shares division : List ℕ) (k : ℕ) (low prices v
   pub problem : Problem values shares (length division)
   pub shared : InShares division (tail shares)
   pub less : k < length shares
-  pub low_fits : length low ≡ length shares
-  pub prices-fit : length prices ≡ (length shares + 1) * length shares
-  pub vias-fit : length vias ≡ length shares * length shares
+  pub buffers : Buffers (length shares) low prices vias
   pub searched : Searched values shares division (length shares) k low prices vias
 
 -- row k of the raising streets and row k + 1 of the prices lie in their tables, which are small
@@ -52,16 +51,16 @@ module _ {values shares division : List ℕ} {k : ℕ} {low prices vias : List �
   room =
       let w : ℕ = length shares in
       record {
-        in-vias = omega (arith, h.vias-fit, row_within w w k h.less);
-        in-prices = omega (arith, h.prices-fit, row_within (w + 1) w (k + 1) (omega (arith, h.less)));
-        small = omega (arith, h.prices-fit, h.problem.few-sites, mul-le-mul_right {m = w} {n = most_width} w h.problem.few-sites);
+        in-vias = omega (arith, h.buffers.vias-fit, row_within w w k h.less);
+        in-prices = omega (arith, h.buffers.prices-fit, row_within (w + 1) w (k + 1) (omega (arith, h.less)));
+        small = omega (arith, h.buffers.prices-fit, h.problem.few-sites, mul-le-mul_right {m = w} {n = most_width} w h.problem.few-sites);
       }
 
   -- the last prices are what a layer can be made of
   pub layerable : Layerable low values division
   layerable = record {
-    size = rw h.low_fits h.problem.size;
-    sites = λ s l. omega (arith, h.low_fits, inside division h.problem h.shared s l);
+    size = rw h.buffers.low_fits h.problem.size;
+    sites = λ s l. omega (arith, h.buffers.low_fits, inside division h.problem h.shared s l);
     small = h.problem.small;
     low = λ a. omega (arith, h.searched.small a, h.less, h.problem.few-sites);
   }
@@ -72,11 +71,11 @@ module _ {values shares division : List ℕ} {k : ℕ} {low prices vias : List �
   fitted =
       let w : ℕ = length shares in
       record {
-        after-fits = omega (arith, h.low_fits, part_length (k * w + w) (k * w + w + w) prices room.in-prices);
-        via-fits = omega (arith, h.low_fits, part_length (k * w) (k * w + w) vias room.in-vias);
-        shares-fit = sym h.low_fits;
+        after-fits = omega (arith, h.buffers.low_fits, part_length (k * w + w) (k * w + w + w) prices room.in-prices);
+        via-fits = omega (arith, h.buffers.low_fits, part_length (k * w) (k * w + w) vias room.in-vias);
+        shares-fit = sym h.buffers.low_fits;
         few = h.problem.few;
-        few-sites = omega (arith, h.low_fits, h.problem.few-sites);
+        few-sites = omega (arith, h.buffers.low_fits, h.problem.few-sites);
       }
 
   -- with the layer written, the search is one layer deeper
@@ -104,7 +103,7 @@ module _ {values shares division : List ℕ} {k : ℕ} {low prices vias : List �
       let next : (b : ℕ) → (k + 1) * w + b ≡ to + b = λ b. omega arith in
       let low-length : length low' ≡ w = rw c (omega (arith, part_length to end prices' (omega arith))) in
       let sites = inside division h.problem h.shared in
-      let layer = layer-same sites (λ b l. refl) (λ b l. sym (price b l ∙ added b l)) (λ b l. refl) (rw h.low_fits at new) in
+      let layer = layer-same sites (λ b l. refl) (λ b l. sym (price b l ∙ added b l)) (λ b l. refl) (rw h.buffers.low_fits at new) in
       searched-next h.searched sites via h.problem.small low-length
       (λ i l. rw p (put-before to end prices in-prices after (omega arith) row i (omega arith)))
       (λ b l. rw (next b) (sym (price b l)))
@@ -113,17 +112,29 @@ module _ {values shares division : List ℕ} {k : ℕ} {low prices vias : List �
       layer
 
   -- of the raising streets that were written
-  pub raised-row : (via low' : List ℕ) {n r : ℕ} → length via ≡ length (row_at (k * length shares) (length shares) vias) → length low' ≡ length low
+  pub raised-row : (via low' : List ℕ) (n : ℕ) (r : Option ℕ) → length via ≡ length (row_at (k * length shares) (length shares) vias) → length low' ≡ length low
       → Raised (at (row_at (k * length shares) (length shares) (with_row (k * length shares) (length shares) vias via))) n (length low') (length low') r
       → Raised (cell (with_row (k * length shares) (length shares) vias via) (length shares) k) n (length shares) (length shares) r
-  raised-row via low' {r = r} fits e top =
-      let w : ℕ = length shares in
-      let new : List ℕ = with_row (k * w) w vias via in
-      let long : length low' ≡ w = e ∙ h.low_fits in
-      let in-new : k * w + w ≤ length new = written (k * w) w vias via room.in-vias fits in
-      let same : (b : ℕ) → b < w → at (row_at (k * w) w new) b ≡ cell new w k b = λ b l. part_at (k * w) (k * w + w) new in-new b (omega arith) in
-      record {
-        within = omega (arith, top.within);
-        some = λ l. omega (arith, same r l, top.some (omega arith));
-        none = λ l b m. omega (arith, same b m, top.none (omega arith) b (omega arith));
-      }
+  raised-row via low' n r fits e top =
+      elim r as (λ x. Raised (at (row_at from w new)) n (length low') (length low') x → Raised (cell new w k) n w w x) [
+        | None ↦ λ h b m. omega (arith, same b m, h b (omega (arith, long)))
+        | Some x ↦ λ h. let (l, m) = h in (omega (arith, long), omega (arith, same x (omega (arith, long))))
+      ] top
+    where
+      w : ℕ
+      w = length shares
+
+      from : ℕ
+      from = k * length shares
+
+      new : List ℕ
+      new = with_row from w vias via
+
+      long : length low' ≡ w
+      long = e ∙ h.buffers.low_fits
+
+      in-new : from + w ≤ length new
+      in-new = written from w vias via room.in-vias fits
+
+      same : (b : ℕ) → b < w → at (row_at from w new) b ≡ cell new w k b
+      same b l = part_at from (from + w) new in-new b (omega arith)

@@ -8,6 +8,7 @@ use native.Mathlib.Nat.{eq-or-lt_of_le}
 use native.Mathlib.Decide.{dec_lt}
 use native.Mathlib.Omega.{arith}
 use lib.ListN.{length}
+use Rattle.std.specs.Prelude.{None}
 use Rattle.counting.specs.Bounds.{most_value}
 use Rattle.counting.specs.Lists.{at, cell}
 use Rattle.counting.proofs.Sums.{at-past, at-within}
@@ -35,15 +36,6 @@ site-same {t = t} here there s = record {
 pub layer-same : {v : ℕ → ℕ → ℕ} {d d' D c e e' t t' : ℕ → ℕ} {n w : ℕ} → ((s : ℕ) → s < n → D s < w) → ((b : ℕ) → b < w → d b ≡ d' b)
     → ((b : ℕ) → b < w → e b ≡ e' b) → ((b : ℕ) → b < w → t b ≡ t' b) → Layer v d D c n w e t → Layer v d' D c n w e' t'
 layer-same {D = D} sites before after by h b l = rw (← after b l, ← by b l) (site-same (before b l) (λ s m. before (D s) (sites s m)) (h b l))
-
--- before the first layer all prices are 0
-pub searched-start : {values shares division : List ℕ} {w : ℕ} {low prices vias : List ℕ} → ((a : ℕ) → at low a ≡ 0)
-    → ((b : ℕ) → b < w → at prices b ≡ 0) → Searched values shares division w 0 low prices vias
-searched-start {w = w} none first = record {
-  last = λ b l. let here : 0 * w + b ≡ b = omega arith in none b ∙ sym (rw here (first b l));
-  layers = λ l m. absurd (omega arith);
-  small = λ a. omega (arith, none a);
-}
 
 module _ {values shares division : List ℕ} {w k : ℕ} {low prices vias : List ℕ} (h : Searched values shares division w k low prices vias)
     (sites : (s : ℕ) → s < length division → at division s < w) where
@@ -99,12 +91,12 @@ module _ {values shares division : List ℕ} {w k : ℕ} {low prices vias : List
       (λ q. absurd (omega (arith, upper.by raised, upper.rose raised, own.same (omega arith), lower.covers (upper.held raised) t raised)))
 
   -- under the prices of a layer that raises nothing no move has a negative reduced cost: they prove the division best
-  pub priced : (l : ℕ) {r : ℕ} → l + 1 ≡ k → length shares ≡ w → at shares 0 ≡ 0 → w ≤ r → Raised (cell vias w l) (length division) w w r
+  pub priced : (l : ℕ) → l + 1 ≡ k → length shares ≡ w → at shares 0 ≡ 0 → Raised (cell vias w l) (length division) w w None
       → Priced (cell values w) (at low) (tail shares) division
-  priced l e fit nobody done none t lt b held =
+  priced l e fit nobody none t lt b held =
       let has : 0 < at shares b = omega (arith, share-tail shares nobody b) in
       let o : b < w = omega (arith, at-within shares b has) in
       let a : ℕ = at division t in
       let here = rw e at (h.layers l (omega arith) a (sites t lt)) in
       let there = rw e at (h.layers l (omega arith) b o) in
-      omega (arith, h.last a (sites t lt), h.last b o, here.same (none.none done a (sites t lt)), there.covers has t lt)
+      omega (arith, h.last a (sites t lt), h.last b o, here.same (none a (sites t lt)), there.covers has t lt)

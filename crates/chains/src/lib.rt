@@ -7,118 +7,100 @@ ghost use Rattle.counting.specs.Bounds.{most_price};
 ghost use Rattle.counting.specs.Lists.{at, cell};
 ghost use Rattle.division.specs.Prices.{Priced};
 ghost use Rattle.division.specs.Shares.{InShares, division_total};
-ghost use Rattle.division.specs.Problem.{Problem, tail};
-ghost use Rattle.pairs.specs.Moves.{Valued, Tables};
+ghost use Rattle.division.specs.Problem.{Problem as IsProblem, tail};
+ghost use Rattle.pairs.specs.Moves.{Valued};
+ghost use Rattle.pairs.specs.BestMoves.{BestFor, value_of};
 ghost use Rattle.rings.specs.Rings.{moved, Moves};
 ghost use Rattle.chains.specs.Chains.{Buffers, Searched, Raised, Closed};
 
+use pairs::{BestMoves, Problem};
+use rings::{Ring, Walk};
+
 pub mod steps;
 
-// One layer more: its prices and raising streets are kept, and a site that it raised is returned, w where it raised none.
+// One layer more: its prices and raising streets are kept, and a site that it raised is returned, if it raised one.
 fn deepen(
-    values: &[u32],
-    shares: &[u16],
+    problem: &Problem,
     division: &[u8],
+    moves: &BestMoves,
     k: usize,
     low: &mut [u32],
     prices: &mut [u32],
     vias: &mut [u16],
-    pairs: &[u16],
-    gains: &[u32],
-) -> usize
-    requires problem { Problem values.now shares.now (length division.now) × InShares division.now (tail shares.now) }
-    requires k_in_bounds { (k < length shares.now) × (length low.old ≡ length shares.now)
-        × (length prices.old ≡ (length shares.now + 1) * length shares.now) × (length vias.old ≡ length shares.now * length shares.now) }
-    requires searched_2 { Searched values.now shares.now division.now (length shares.now) k low.old prices.old vias.old }
-    requires tables { Tables values.now division.now (length shares.now) pairs.now gains.now }
-    ensures searched { Searched values.now shares.now division.now (length shares.now) (k + 1)
+) -> Option<usize>
+    requires in_shares { IsProblem problem.now.values.now problem.now.shares.now (length division.now) × InShares division.now (tail problem.now.shares.now) }
+    requires k_in_bounds { (k < length problem.now.shares.now) × Buffers (length problem.now.shares.now) low.old prices.old vias.old }
+    requires searched_2 { Searched problem.now.values.now problem.now.shares.now division.now (length problem.now.shares.now) k low.old prices.old vias.old }
+    requires tables { BestFor problem.now division.now moves.now }
+    ensures searched { Searched problem.now.values.now problem.now.shares.now division.now (length problem.now.shares.now) (k + 1)
         low.new prices.new vias.new }
-    ensures raised { Raised (cell vias.new (length shares.now) k)
-        (length division.now) (length shares.now) (length shares.now) result }
+    ensures raised { Raised (cell vias.new (length problem.now.shares.now) k)
+        (length division.now) (length problem.now.shares.now) (length problem.now.shares.now) result }
 {
-    let w = shares.len();
-    let n = division.len();
+    let w = problem.shares.len();
     let from = k * w;
     let to = from + w;
     let end = to + w;
     layers::layer(
+        problem,
+        division,
+        moves,
         low,
         &mut prices[to..end],
         &mut vias[from..to],
-        values,
-        division,
-        pairs,
-        gains,
-        shares,
     );
-    buffers::copy_numbers(&prices[to..end], low);
-    steps::highest(low, &vias[from..to], n)
+    low.copy_from_slice(&prices[to..end]);
+    steps::highest(low, &vias[from..to], division.len())
 }
 
 // A closed chain is shifted, and the best moves from its sites are made anew.
-fn turn(
-    values: &[u32],
-    w: usize,
-    division: &mut [u8],
-    pairs: &mut [u16],
-    gains: &mut [u32],
-    streets: &[u16],
-    sites: &[u8],
-    from: usize,
-    count: usize,
-)
-    requires valued { Valued values.now division.old w }
-    requires tables_2 { Tables values.now division.old w pairs.old gains.old }
-    requires moves { Moves (length division.old) streets.now sites.now from count }
-    requires closed { Closed division.old w (at streets.now) (at sites.now) from count }
-    ensures moved { division.new ≡ moved division.old (at streets.now) (at sites.now) from count }
-    ensures tables { Tables values.now division.new w pairs.new gains.new }
+fn turn(problem: &Problem, division: &mut [u8], moves: &mut BestMoves, walk: &Walk, ring: Ring)
+    requires valued { Valued problem.now.values.now division.old (length problem.now.shares.now) }
+    requires tables_2 { BestFor problem.now division.old moves.old }
+    requires moves { Moves (length division.old) walk.now.streets ring.from ring.count }
+    requires closed { Closed division.old (length problem.now.shares.now) (at walk.now.streets) (at walk.now.sites) ring.from ring.count }
+    ensures moved { division.new ≡ moved division.old (at walk.now.streets) (at walk.now.sites)
+        ring.from ring.count }
+    ensures tables { BestFor problem.now division.new moves.new }
 {
-    rings::shift(division, streets, sites, from, count);
-    pairs::mend(values, division, w, sites, from, count, pairs, gains);
+    let from = ring.from;
+    let to = from + ring.count;
+    walk.shift(division, ring);
+    moves.mend(problem, division, &walk.sites[from..to]);
 }
 
 // The division is improved until no chain of moves gains; its total is returned, and prices that prove it best are left in `low`.
 pub fn improve(
-    values: &[u32],
-    shares: &[u16],
+    problem: &Problem,
     division: &mut [u8],
     low: &mut [u32],
     prices: &mut [u32],
     vias: &mut [u16],
-    pairs: &mut [u16],
-    gains: &mut [u32],
-    streets: &mut [u16],
-    sites: &mut [u8],
 ) -> u32
-    requires problem { Problem values.now shares.now (length division.old) × InShares division.old (tail shares.now) }
-    requires buffers { Buffers (length shares.now) low.old prices.old vias.old pairs.old gains.old streets.old sites.old }
-    ensures total { result ≡ division_total (cell values.now (length shares.now)) division.new }
-    ensures shares { InShares division.new (tail shares.now) }
+    requires in_shares { IsProblem problem.now.values.now problem.now.shares.now (length division.old) × InShares division.old (tail problem.now.shares.now) }
+    requires buffers { Buffers (length problem.now.shares.now) low.old prices.old vias.old }
+    ensures total { result ≡ division_total (value_of problem.now) division.new }
+    ensures shares { InShares division.new (tail problem.now.shares.now) }
     ensures best { ((a : ℕ) → at low.new a ≤ most_price)
-        × Priced (cell values.now (length shares.now)) (at low.new) (tail shares.now) division.new }
+        × Priced (value_of problem.now) (at low.new) (tail problem.now.shares.now) division.new }
 {
-    let w = shares.len();
-    pairs::build(values, division, w, pairs, gains);
-    let total = 'improve: loop {
-        steps::begin(low, prices);
+    let w = problem.shares.len();
+    let mut moves = BestMoves::new();
+    let mut walk = Walk::new();
+    moves.build(problem, division);
+    'improve: loop {
+        low.fill(0);
+        prices[..w].fill(0);
         let mut k = 0;
         'search: loop {
-            let top = deepen(values, shares, division, k, low, prices, vias, pairs, gains);
-            if w <= top {
-                break 'improve steps::sum(values, w, division);
-            }
+            let Some(top) = deepen(problem, division, &moves, k, low, prices, vias) else {
+                break 'improve steps::sum(problem, division);
+            };
             k += 1;
-            let ring = rings::walk(vias, division, w, k, top, streets, sites);
-            let from = ring.from;
-            let count = ring.count;
-            if 0 < count {
-                turn(
-                    values, w, division, pairs, gains, streets, sites, from, count,
-                );
+            if let Some(ring) = walk.back(vias, division, w, k, top) {
+                turn(problem, division, &mut moves, &walk, ring);
                 break 'search;
             }
         }
-    };
-    total
+    }
 }

@@ -6,7 +6,6 @@ use Prim.Native.Nat.{ℕ, ◌*◌, ◌≤◌, ◌<◌}
 use native.Mathlib.Nat.{mul-le-mul}
 use native.Mathlib.Omega.{arith}
 use lib.ListN.{length, length-map, take, replicate}
-use lib.Seq.{length-take-le}
 use Rattle.counting.specs.Bounds.{most_streets, most_width, most_entries}
 use Rattle.counting.specs.Lists.{at, cell}
 use Rattle.counting.proofs.Sums.{at-within}
@@ -121,14 +120,9 @@ as_many f x j n e h = rw e at h
 
 -- the small table is no larger than the table
 module _ {values shares : List ℕ} {n : ℕ} (problem : Problem values shares n) (k : ℕ) (fewer : k ≤ length shares) where
-  pub few-area : n * k ≤ most_entries
+  few-area : n * k ≤ most_entries
   few-area = mul-le-mul {n₁ = n} {m₁ = k} {n₂ = most_streets} {m₂ = most_width} problem.few (omega (arith, problem.few-sites))
 
   -- the front of its buffer is as long as the table, and blank
-  pub table-length : length (take (n * k) (replicate {A = ℕ} most_entries 0)) ≡ n * k
-  table-length = front_length (n * k) most_entries few-area
-
-  pub few-table : (few : List ℕ) → k ≤ length few
-      → (length (take (n * k) (replicate {A = ℕ} most_entries 0)) ≡ n * length (take k few))
-      × ((i : ℕ) → at (take (n * k) (replicate {A = ℕ} most_entries 0)) i ≡ 0)
-  few-table few fits = (table-length ∙ ap (λ (x : ℕ). n * x) (sym (length-take-le k few fits)), front-blank (n * k) most_entries few-area)
+  pub few-table : (length (take (n * k) (replicate {A = ℕ} most_entries 0)) ≡ n * k) × ((i : ℕ) → at (take (n * k) (replicate {A = ℕ} most_entries 0)) i ≡ 0)
+  few-table = (front_length (n * k) most_entries few-area, front-blank (n * k) most_entries few-area)

@@ -5,7 +5,6 @@ use mathlib.Core.Logic.{by_cases}
 use mathlib.Core.List.{List}
 use Prim.Native.Nat.{ℕ, ◌+◌, ◌≤◌, ◌<◌}
 use native.Mathlib.Decide.{ℕ_discrete}
-use native.Mathlib.Nat.{le_antisymm}
 use native.Mathlib.Omega.{arith}
 use borrow.Author.Count.{below_more}
 use lib.ListN.{length, take, set, length-set}
@@ -59,10 +58,6 @@ module _ {shares sites numbers few : List ℕ} where
           rises = h.rises;
           number = h.number;
         })
-
-    -- the sites are through
-    pub numbered-end : (w : ℕ) → w ≤ a → a ≤ w → Numbered shares sites numbers few w k
-    numbered-end w l g = rw (le_antisymm g l) at h
 
     -- a site with a share: it is stored at k, its number and its share with it, and all before stays
     module _ (sites-fit : a < length sites) (numbers_fit : a < length numbers) (few-fit : a < length few) where

@@ -13,10 +13,6 @@ use Rattle.counting.proofs.Parts.{part, put, part_length, part_at, put-length, p
 use Rattle.counting.proofs.Tables.{row_within}
 use Rattle.compact.specs.Numbered.{Columns}
 
--- before the first street the table is blank
-pub columns-none : (values : List ℕ) (w : ℕ) (sites table : List ℕ) (k : ℕ) → ((i : ℕ) → at table i ≡ 0) → Columns values w sites table k 0
-columns-none values w sites table k none = record { same = λ s j l m. absurd (omega arith); small = λ i. omega (arith, none i) }
-
 -- a street's row of a table, as it is lent
 abbrev long : ℕ → List ℕ → ℕ → List ℕ
 long w values s = part (s * w) (s * w + w) values
@@ -88,7 +84,3 @@ module _ {values : List ℕ} {w : ℕ} {sites table : List ℕ} {k s : ℕ} (h :
           small = low;
         },
       )
-
--- all streets are through
-pub columns-end : {values : List ℕ} {w : ℕ} {sites table : List ℕ} {k n s : ℕ} → n ≤ s → Columns values w sites table k s → Columns values w sites table k n
-columns-end l h = record { same = λ t j a m. h.same t j (omega arith) m; small = h.small }

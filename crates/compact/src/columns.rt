@@ -10,9 +10,8 @@ fn fill_row(values: &[u32], sites: &[u8], row: &mut [u32])
     requires by_index { (j : ℕ) → j < length row.old → at sites.now j < length values.now }
     ensures { (j : ℕ) → j < length row.old → at row.new j ≡ at values.now (at sites.now j) }
 {
-    for j in 0..row.len() {
-        let a = sites[j] as usize;
-        row[j] = values[a];
+    for (j, value) in row.iter_mut().enumerate() {
+        *value = values[usize::from(sites[j])];
     }
 }
 

@@ -9,7 +9,7 @@ ghost use Rattle.division.specs.Divide.{divide};
 ghost use Rattle.division.specs.Problem.{Problem, tail};
 ghost use Rattle.compact.specs.Numbered.{Numbered};
 
-use counting::WIDTH;
+use numbers::Numbering;
 
 mod columns;
 mod numbers;
@@ -18,26 +18,24 @@ mod numbers;
 fn best_of_few(
     values: &[u32],
     shares: &[u16],
-    sites: &[u8],
-    numbers: &[u8],
-    few: &[u16],
+    numbering: &Numbering,
     table: &mut [u32],
     division: &mut [u8],
 ) -> u32
     requires problem { Problem values.now shares.now (length division.old) × InShares division.old (tail shares.now) }
-    requires numbered { Numbered shares.now sites.now numbers.now few.now (length shares.now) (length few.now) }
-    requires shares_in_bounds { (length shares.now ≤ length sites.now) × (length shares.now ≤ length numbers.now) }
-    requires table_len { (length table.old ≡ length division.old * length few.now) × ((i : ℕ) → at table.old i ≡ 0) }
+    requires numbered { Numbered shares.now numbering.now.sites numbering.now.numbers numbering.now.few (length shares.now) numbering.now.count }
+    requires table_len { (length table.old ≡ length division.old * numbering.now.count) × ((i : ℕ) → at table.old i ≡ 0) }
     ensures total { result ≡ division_total (cell values.now (length shares.now))
         (divide (cell values.now (length shares.now)) (length division.old) (tail shares.now)) }
     ensures division { division.new
         ≡ divide (cell values.now (length shares.now)) (length division.old) (tail shares.now) }
 {
     let n = division.len();
-    columns::fill(values, shares.len(), sites, few.len(), n, table);
-    numbers::rename(numbers, division);
+    let few = &numbering.few[..numbering.count];
+    columns::fill(values, shares.len(), &numbering.sites, few.len(), n, table);
+    numbers::rename(&numbering.numbers, division);
     let total = best_division::best(table, few, division);
-    numbers::rename(sites, division);
+    numbers::rename(&numbering.sites, division);
     total
 }
 
@@ -49,19 +47,8 @@ pub fn best(values: &[u32], shares: &[u16], division: &mut [u8]) -> u32
     ensures division { division.new
         ≡ divide (cell values.now (length shares.now)) (length division.old) (tail shares.now) }
 {
-    let mut sites = [0u8; WIDTH];
-    let mut numbers = [0u8; WIDTH];
-    let mut few = [0u16; WIDTH];
-    let k = numbers::number(shares, &mut sites, &mut numbers, &mut few);
-    let size = division.len() * k;
+    let numbering = Numbering::of(shares);
+    let size = division.len() * numbering.count;
     let mut table = [0u32; counting::ENTRIES];
-    best_of_few(
-        values,
-        shares,
-        &sites,
-        &numbers,
-        &few[..k],
-        &mut table[..size],
-        division,
-    )
+    best_of_few(values, shares, &numbering, &mut table[..size], division)
 }

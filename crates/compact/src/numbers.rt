@@ -4,24 +4,43 @@ ghost use Rattle.counting.specs.Bounds.{most_width};
 ghost use Rattle.counting.specs.Lists.{at};
 ghost use Rattle.compact.specs.Numbered.{Numbered};
 
-// The sites that have a share get the numbers 1, 2, .. in their order, and `few` their shares; site 0 has the number 0. The count of the
-// numbers is returned.
-pub fn number(shares: &[u16], sites: &mut [u8], numbers: &mut [u8], few: &mut [u16]) -> usize
-    requires shares_in_bounds { (length shares.now ≤ length sites.old) × (length shares.now ≤ length numbers.old) × (length shares.now ≤ length few.old) }
-    requires sites_value { (at sites.old 0 ≡ 0) × (at numbers.old 0 ≡ 0) × (at few.old 0 ≡ 0) }
-    requires shares_nonzero { (0 < length shares.now) × (length shares.now ≤ most_width) × (at shares.now 0 ≡ 0) }
-    ensures { Numbered shares.now sites.new numbers.new few.new (length shares.now) result }
-{
-    let mut k: usize = 1;
-    for a in 1..shares.len() {
-        if shares[a] != 0 {
-            sites[k] = a as u8;
-            numbers[a] = k as u8;
-            few[k] = shares[a];
-            k = k + 1;
+use counting::WIDTH;
+
+// From number to site, from site to number, the shares by number, and the count of the numbers.
+#[derive(Drop)]
+pub struct Numbering {
+    pub sites: [u8; WIDTH],
+    pub numbers: [u8; WIDTH],
+    pub few: [u16; WIDTH],
+    pub count: usize,
+}
+
+impl Numbering {
+    // The sites that have a share get the numbers 1, 2, .. in their order; site 0 has the number 0.
+    pub fn of(shares: &[u16]) -> Self
+        requires { (0 < length shares.now) × (length shares.now ≤ most_width) × (at shares.now 0 ≡ 0) }
+        ensures { Numbered shares.now result.sites result.numbers result.few
+            (length shares.now) result.count }
+    {
+        let mut sites = [0; WIDTH];
+        let mut numbers = [0; WIDTH];
+        let mut few = [0; WIDTH];
+        let mut count = 1;
+        for a in 1..shares.len() {
+            if shares[a] != 0 {
+                sites[count] = a as u8;
+                numbers[a] = count as u8;
+                few[count] = shares[a];
+                count += 1;
+            }
+        }
+        Numbering {
+            sites,
+            numbers,
+            few,
+            count,
         }
     }
-    k
 }
 
 // Each street's site is given its other name.
@@ -29,8 +48,7 @@ pub fn rename(names: &[u8], division: &mut [u8])
     requires { (s : ℕ) → s < length division.old → at division.old s < length names.now }
     ensures { division.new ≡ map (at names.now) division.old }
 {
-    for s in 0..division.len() {
-        let a = division[s] as usize;
-        division[s] = names[a];
+    for site in division.iter_mut() {
+        *site = names[usize::from(*site)];
     }
 }

@@ -7,23 +7,13 @@ use Prim.Native.Nat.{ℕ, ◌+◌, ◌*◌, ◌≤◌, ◌<◌}
 use native.Mathlib.Nat.{add-zero}
 use native.Mathlib.Decide.{dec_lt, ℕ_discrete}
 use native.Mathlib.Omega.{arith}
-use lib.ListN.{length, set}
-use Rattle.counting.specs.Bounds.{most_width, most_value, most_price}
+use lib.ListN.{length, set, replicate, get_or-replicate}
+use Rattle.counting.specs.Bounds.{most_value, most_price}
 use Rattle.counting.specs.Lists.{at, cell}
-use Rattle.counting.specs.Buffers.{Mapped}
-use Rattle.pairs.specs.Moves.{even, Pair, Row, Tables}
-use Rattle.pairs.proofs.TableRows.{RowIn, row-in-table}
+use Rattle.pairs.specs.Moves.{even, Pair, Row}
 use Rattle.pairs.proofs.Moves.{row-some, row-none}
 use Rattle.pairs.proofs.Stores.{stored, unstored}
 use Rattle.layers.specs.Layers.{Fitting, Layer, Lift, Lifts, Taking, Relaxing}
-
--- a site's row lies within both tables
-abbrev pub InTables : ℕ → ℕ → List ℕ → List ℕ → Type 0
-InTables a w pairs gains = RowIn a w (length gains) × RowIn a w (length pairs)
-
-pub row-in-tables : {values division pairs gains : List ℕ} {w : ℕ} (a : ℕ) → Tables values division w pairs gains → a < w → w ≤ most_width
-    → InTables a w pairs gains
-row-in-tables {w = w} a t l few = (row-in-table a w w t.gains-fit l (omega arith) few, row-in-table a w w t.pairs-fit l (omega arith) few)
 
 -- buffers of the same lengths fit as well
 pub fitting-same : {w n : ℕ} {after via shares after' via' : List ℕ} → Fitting w n after via shares → length after' ≡ length after
@@ -54,25 +44,25 @@ covers_more v d D n a b p old new s l m =
     by_cases (dec_lt (D s) a) (old s l)
     (λ k. let e : D s ≡ a = omega arith in subst (λ (x : ℕ). d x + v s b ≤ p + v s x) (sym e) (new s l e))
 
+-- no street has been looked at: each site keeps its price
+lift-none : {v : ℕ → ℕ → ℕ} {d D : ℕ → ℕ} {n : ℕ} (share b : ℕ) → Lift v d D share 0 n b (d b) n
+lift-none share b =
+    record {
+      keeps = omega arith;
+      covers = λ k s l m. absurd (omega arith);
+      within = omega arith;
+      by = λ l. absurd (omega arith);
+      rose = λ l. absurd (omega arith);
+      held = λ l. absurd (omega arith);
+      same = λ l. refl;
+    }
+
+-- so the layer begins with a copy of the prices
+pub lifts-start : {v : ℕ → ℕ → ℕ} {D : ℕ → ℕ} {n w : ℕ} (before : List ℕ) (c : ℕ → ℕ) {after via : List ℕ} → after ≡ before → via ≡ replicate w n
+    → Lifts v (at before) D c 0 n w (at after) (at via)
+lifts-start {n = n} {w} before c prices streets b l = rw (prices, streets, get_or-replicate w b n 0 l) (lift-none {d = at before} (c b) b)
+
 module _ {v : ℕ → ℕ → ℕ} {d D : ℕ → ℕ} {n : ℕ} where
-  -- no street has been looked at: each site keeps its price
-  lift-none : (share b : ℕ) → Lift v d D share 0 n b (d b) n
-  lift-none share b =
-      record {
-        keeps = omega arith;
-        covers = λ k s l m. absurd (omega arith);
-        within = omega arith;
-        by = λ l. absurd (omega arith);
-        rose = λ l. absurd (omega arith);
-        held = λ l. absurd (omega arith);
-        same = λ l. refl;
-      }
-
-  -- so the layer begins with a copy of the prices
-  pub lifts-start : (c : ℕ → ℕ) {w : ℕ} {after via after' via' : List ℕ} → Mapped (λ b x. d b) after after' w → Mapped (λ b x. n) via via' w
-      → Lifts v d D c 0 n w (at after') (at via')
-  lifts-start c prices streets b l = rw (prices.done b l, streets.done b l) (lift-none (c b) b)
-
   -- prices stay small
   pub lift-small : {share seen b p t : ℕ} → ((a : ℕ) → d a ≤ most_price) → ((s b : ℕ) → v s b ≤ most_value) → Lift v d D share seen n b p t
       → p ≤ most_price + most_value

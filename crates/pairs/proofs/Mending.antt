@@ -13,11 +13,7 @@ use Rattle.counting.proofs.Tables.{row_within, in_rows}
 use Rattle.pairs.specs.Moves.{Row, Tables, Renewed, Mended}
 
 -- a row of a table that was lent and has come back
-module _ (w a : ℕ) (table row : List ℕ) (l : a < w) (size : length table ≡ w * w) (same : length row ≡ length (part (a * w) (a * w + w) table)) where
-  -- the row ends within the table
-  row-ends-in : a * w + w ≤ length table
-  row-ends-in = omega (arith, row_within w w a l)
-
+module _ (w a : ℕ) (table row : List ℕ) (row-ends-in : a * w + w ≤ length table) (same : length row ≡ length (part (a * w) (a * w + w) table)) where
   -- what came back is as long as the row
   row-long : length row ≡ a * w + w - a * w
   row-long = same ∙ part_length (a * w) (a * w + w) table row-ends-in
@@ -35,15 +31,15 @@ module _ (w a : ℕ) (table row : List ℕ) (l : a < w) (size : length table ≡
       (omega (arith, row_within x w a (omega arith))))
 
 -- so one row of both tables is made anew
-pub renewed : {values division : List ℕ} {w a : ℕ} {pairs gains : List ℕ} (p g : List ℕ) → a < w → length pairs ≡ w * w → length gains ≡ w * w
+pub renewed : {values division : List ℕ} {w a : ℕ} {pairs gains : List ℕ} (p g : List ℕ) → a * w + w ≤ length pairs → a * w + w ≤ length gains
     → length p ≡ length (part (a * w) (a * w + w) pairs) → length g ≡ length (part (a * w) (a * w + w) gains)
     → Row (cell values w) (at division) a (length division) (length division) w (at g) (at p)
     → Renewed values division w a pairs gains (put (a * w) (a * w + w) pairs p) (put (a * w) (a * w + w) gains g)
-renewed {w = w} {a} {pairs} {gains} p g l sp sg fp fg h =
+renewed {w = w} {a} {pairs} {gains} p g sp sg fp fg h =
     record {
-      row = λ b lb. rw (row_in w a gains g l sg fg b lb, row_in w a pairs p l sp fp b lb) (h b lb);
-      gains-kept = λ x b lx d lb. row_other w a gains g l sg fg x b d lb;
-      pairs-kept = λ x b lx d lb. row_other w a pairs p l sp fp x b d lb;
+      row = λ b lb. rw (row_in w a gains g sg fg b lb, row_in w a pairs p sp fp b lb) (h b lb);
+      gains-kept = λ x b lx d lb. row_other w a gains g sg fg x b d lb;
+      pairs-kept = λ x b lx d lb. row_other w a pairs p sp fp x b d lb;
     }
 
 -- no row is made yet, and all are to be
@@ -65,7 +61,5 @@ module _ {values division : List ℕ} {w : ℕ} {xs : ℕ → ℕ} {i e : ℕ} {
           (h a l (λ k m z. by_cases (ℕ_discrete i k) (λ q. rw q at d) (λ q. free k (omega arith) z)) b lb)
 
   -- no row is left
-  pub mended-all : e ≤ i → length pairs ≡ w * w → length gains ≡ w * w
-      → Mended values division w xs i e pairs gains → Tables values division w pairs gains
-  mended-all k sp sg h =
-      record { pairs-fit = sp; gains-fit = sg; paired = λ a l. h a l (λ x m z. absurd (omega arith)) }
+  pub mended-all : e ≤ i → Mended values division w xs i e pairs gains → Tables values division w pairs gains
+  mended-all k h = record { paired = λ a l. h a l (λ x m z. absurd (omega arith)) }

@@ -8,12 +8,16 @@ use native.Mathlib.Nat.{le_antisymm}
 use native.Mathlib.Decide.{dec_lt}
 use native.Mathlib.Omega.{arith}
 use borrow.Author.Count.{below_more}
-use lib.ListN.{length, set, replicate}
+use lib.ListN.{length, set, replicate, length-replicate, get_or-replicate, get_or-eq_default}
 use Rattle.counting.specs.Bounds.{most_value}
 use Rattle.counting.specs.Lists.{at}
-use Rattle.buffers.proofs.Copying.{filled_at}
 use Rattle.pairs.specs.Moves.{even, Pair, Row, Better, Meeting}
 use Rattle.pairs.proofs.Stores.{stored, unstored}
+
+-- a list of zeros reads as 0 everywhere
+pub zeros_at : (list : List ℕ) (n : ℕ) → list ≡ replicate n 0 → (i : ℕ) → at list i ≡ 0
+zeros_at list n e i =
+    rw e (by_cases (dec_lt i n) (get_or-replicate n i 0 0) (λ o. get_or-eq_default (replicate n 0) 0 (rw length-replicate (omega arith))))
 
 module _ {v : ℕ → ℕ → ℕ} {D : ℕ → ℕ} {a n : ℕ} where
   -- no street has been looked at: a gain of 0 stands for no move
@@ -29,7 +33,7 @@ module _ {v : ℕ → ℕ → ℕ} {D : ℕ → ℕ} {a n : ℕ} where
 
   -- a cleared row is one of no streets
   pub row-start : {w : ℕ} (size : ℕ) (gains : List ℕ) (t : ℕ → ℕ) → gains ≡ replicate size 0 → Row v D a 0 n w (at gains) t
-  row-start size gains t e b l = rw (filled_at 0 gains size e b) (pair-none b (t b))
+  row-start size gains t e b l = rw (zeros_at gains size e b) (pair-none b (t b))
 
   -- a street of another site changes nothing
   pub row-skip : {s w : ℕ} {g t : ℕ → ℕ} → D s ≢ a → Row v D a s n w g t → Row v D a (s + 1) n w g t

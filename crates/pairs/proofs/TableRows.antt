@@ -18,3 +18,11 @@ row-in-table s n w e l few few-sites =
       ends = omega (arith, row_within n w s l);
       few-cells = omega (arith, mul-le-mul {n₁ = n} {m₁ = w} {n₂ = most_streets} {m₂ = most_width} few few-sites);
     }
+
+-- a row of the best moves lies within their table, which has a row and a column for each of the most sites
+abbrev pub most_area : ℕ
+most_area = most_width * most_width
+
+pub row-in-moves : (a w : ℕ) → a < w → w ≤ most_width → RowIn a w most_area
+row-in-moves a w l few =
+    record { ends = omega (arith, row_within w w a l, mul-le-mul {n₁ = w} {m₁ = w} {n₂ = most_width} {m₂ = most_width} few few); few-cells = omega arith }

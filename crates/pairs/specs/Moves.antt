@@ -31,8 +31,6 @@ Row v D a seen n w g t = (b : ℕ) → b < w → Pair v D a seen n b (g b) (t b)
 
 -- the tables of the streets and of the gains of all best moves
 pub record Tables (values division : List ℕ) (w : ℕ) (pairs gains : List ℕ) : Type 0 where
-  pub pairs-fit : length pairs ≡ w * w
-  pub gains-fit : length gains ≡ w * w
   pub paired : (a : ℕ) → a < w → Row (cell values w) (at division) a (length division) (length division) w (cell gains w a) (cell pairs w a)
 
 -- the better of a best move so far and one more, which must gain more to win

@@ -1,64 +1,86 @@
 // The tables of the best move between each two sites, made for a division and mended after streets have moved.
 #![tactic(auto)]
 
-ghost use Rattle.std.specs.Prelude.{◌≡◌, ℕ, ◌+◌, ◌*◌, ◌≤◌, ◌<◌, length};
+ghost use Rattle.std.specs.Prelude.{◌≡◌, ℕ, ◌<◌, length, replicate};
 ghost use Rattle.counting.specs.Lists.{at};
-ghost use Rattle.pairs.specs.Moves.{Valued, Tables, Renewed, Mended};
+ghost use Rattle.pairs.specs.Moves.{Renewed, Mended};
+ghost use Rattle.pairs.specs.BestMoves.{Fits, BestFor};
+
+use counting::WIDTH;
 
 pub mod rows;
 
 // The gain of a street that gives both sites the same. It is more than any value, so that no move's gain is 0.
 pub const EVEN: u32 = 100000;
 
-// The row of the site a is made anew.
-fn renew(values: &[u32], division: &[u8], w: usize, a: usize, pairs: &mut [u16], gains: &mut [u32])
-    requires valued { Valued values.now division.now w }
-    requires a_lt_w { (a < w) × (length pairs.old ≡ w * w) × (length gains.old ≡ w * w) }
-    ensures { Renewed values.now division.now w a
-        pairs.old gains.old pairs.new gains.new }
-{
-    let from = a * w;
-    let to = from + w;
-    rows::rebuild(
-        values,
-        division,
-        w,
-        a,
-        &mut pairs[from..to],
-        &mut gains[from..to],
-    );
+// a move for each two sites
+const AREA: usize = WIDTH * WIDTH;
+
+// The streets' values and the shares, both with site 0 in front.
+#[derive(Clone, Copy)]
+pub struct Problem<'a> {
+    pub values: &'a [u32],
+    pub shares: &'a [u16],
 }
 
-// Only the rows of the listed sites are made anew: those that have lost or gained a street.
-pub fn mend(
-    values: &[u32],
-    division: &[u8],
-    w: usize,
-    sites: &[u8],
-    from: usize,
-    count: usize,
-    pairs: &mut [u16],
-    gains: &mut [u32],
-)
-    requires valued { Valued values.now division.now w }
-    requires count_in_bounds { (from + count ≤ length sites.now) × (length pairs.old ≡ w * w) × (length gains.old ≡ w * w) }
-    requires by_index { (l : ℕ) → from ≤ l → l < from + count → at sites.now l < w }
-    requires mended { Mended values.now division.now w (at sites.now) from (from + count) pairs.old gains.old }
-    ensures { Tables values.now division.now w pairs.new gains.new }
-{
-    let to = from + count;
-    for i in from..to {
-        renew(values, division, w, sites[i] as usize, pairs, gains);
+// The best move from each site to each, in rows as wide as the shares: its street, and its gain.
+// kept: two arrays, for the speed of the loops over a row, which go over each as it lies; one array of moves was not tried
+#[derive(Drop)]
+pub struct BestMoves {
+    pub pairs: [u16; AREA],
+    pub gains: [u32; AREA],
+}
+
+impl BestMoves {
+    // No move is known.
+    pub fn new() -> Self
+        ensures { result.gains ≡ replicate AREA 0 }
+    {
+        BestMoves {
+            pairs: [0; AREA],
+            gains: [0; AREA],
+        }
     }
-}
 
-// All rows are made anew.
-pub fn build(values: &[u32], division: &[u8], w: usize, pairs: &mut [u16], gains: &mut [u32])
-    requires valued { Valued values.now division.now w }
-    requires pairs_len { (length pairs.old ≡ w * w) × (length gains.old ≡ w * w) }
-    ensures { Tables values.now division.now w pairs.new gains.new }
-{
-    for a in 0..w {
-        renew(values, division, w, a, pairs, gains);
+    // All rows are made anew.
+    pub fn build(&mut self, problem: &Problem, division: &[u8])
+        requires { Fits problem.now division.now }
+        ensures { BestFor problem.now division.now self.new }
+    {
+        for a in 0..problem.shares.len() {
+            self.renew(problem, division, a);
+        }
+    }
+
+    // Only the rows of the listed sites are made anew: those that have lost or gained a street.
+    pub fn mend(&mut self, problem: &Problem, division: &[u8], sites: &[u8])
+        requires fits { Fits problem.now division.now }
+        requires by_index { (l : ℕ) → l < length sites.now → at sites.now l < length problem.now.shares.now }
+        requires mended { Mended problem.now.values.now division.now (length problem.now.shares.now) (at sites.now)
+            0 (length sites.now) self.old.pairs self.old.gains }
+        ensures { BestFor problem.now division.now self.new }
+    {
+        for site in sites {
+            self.renew(problem, division, usize::from(*site));
+        }
+    }
+
+    // The row of the site a is made anew.
+    fn renew(&mut self, problem: &Problem, division: &[u8], a: usize)
+        requires fits { Fits problem.now division.now }
+        requires a_lt_w { a < length problem.now.shares.now }
+        ensures { Renewed problem.now.values.now division.now (length problem.now.shares.now) a
+            self.old.pairs self.old.gains self.new.pairs self.new.gains }
+    {
+        let w = problem.shares.len();
+        let from = a * w;
+        let to = from + w;
+        rows::rebuild(
+            problem,
+            division,
+            a,
+            &mut self.pairs[from..to],
+            &mut self.gains[from..to],
+        );
     }
 }

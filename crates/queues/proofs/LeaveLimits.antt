@@ -6,21 +6,20 @@ use mathlib.Core.List.{List}
 use Prim.Native.Nat.{ℕ, ◌+◌, ◌-◌, ◌≤◌, ◌<◌}
 use native.Mathlib.Decide.{ℕ_discrete, dec_lt}
 use native.Mathlib.Omega.{arith}
-use lib.ListN.{length, set, length-set}
+use lib.ListN.{length, set, length-set, replicate, length-replicate, get_or-replicate}
 use lib.Seq.{get_or-set_same, get_or-set_other}
 use Rattle.counting.specs.Lists.{at}
-use Rattle.counting.specs.Buffers.{Mapped}
 use Rattle.counting.proofs.Sums.{at-past}
 use Rattle.queues.specs.Queue.{Later}
 use Rattle.queues.specs.Limits.{Limits, Raised, LastAt}
 
 -- the number of streets is a limit of every site
-pub limits-start : {L : ℕ → Type 0} (s : ℕ) (D blank limits : List ℕ) → Mapped (λ x limit. length D) blank limits (length blank)
-    → ((t : ℕ) → t < length D → at D t < length blank) → Limits L s D limits
-limits-start s D blank limits h sited =
+pub limits-start : {L : ℕ → Type 0} (s : ℕ) (D : List ℕ) (w : ℕ) → ((t : ℕ) → t < length D → at D t < w) → Limits L s D (replicate w (length D))
+limits-start s D w sited =
     record {
-      within = λ x. by_cases (dec_lt x (length blank)) (λ l. omega (arith, h.done x l)) (λ o. omega (arith, at-past limits x (omega (arith, h.size))));
-      limit = λ t l m p. omega (arith, h.done (at D t) (sited t m));
+      within = λ x. by_cases (dec_lt x w) (λ l. rw (get_or-replicate w x (length D) 0 l) (omega arith))
+          (λ o. omega (arith, at-past (replicate w (length D)) x (rw length-replicate (omega arith))));
+      limit = λ t l m p. rw (get_or-replicate w (at D t) (length D) 0 (sited t m)) m;
     }
 
 module _ {L : ℕ → Type 0} {s : ℕ} {D limits : List ℕ} (h : Limits L s D limits) where
@@ -54,40 +53,12 @@ module _ {L : ℕ → Type 0} {s : ℕ} {D limits : List ℕ} (h : Limits L s D 
         limit = λ u m n p. rw (get_or-set_other D s u x 0 (λ e. omega arith)) (h.limit u m (rw (length-set D s x) at n) p);
       }
 
--- a limit that is great enough stays
-pub raised-still : (limits : List ℕ) (x k : ℕ) → k ≤ at limits x → Raised limits limits x k
-raised-still limits x k l = record { up = λ y. omega arith; own = l; from = λ y n m o. m }
-
--- another is stored
-pub raised-now : (limits : List ℕ) (x k : ℕ) → x < length limits → at limits x < k → Raised limits (set limits x k) x k
-raised-now limits x k l m =
-    record {
-      up = λ y. by_cases (ℕ_discrete y x) (λ e. rw (e, new) (omega arith)) (λ e. rw (get_or-set_other limits x y k 0 e) (omega arith));
-      own = rw new (omega arith);
-      from = λ y n o q. by_cases (ℕ_discrete y x) (λ e. rw (e, new) q) (λ e. rw (get_or-set_other limits x y k 0 e) o);
-    }
-  where
-    new : at (set limits x k) x ≡ k
-    new = get_or-set_same limits x k 0 l
-
 -- the limit of the site x falls to e, where no street from e on stands at x and has the property
 pub record Falling (L : ℕ → Type 0) (s : ℕ) (D limits : List ℕ) (x e : ℕ) : Type 0 where
   pub low : e ≤ at limits x
   pub none : (t : ℕ) → e ≤ t → s < t → t < length D → at D t ≡ x → L t → ⊥
 
 module _ {L : ℕ → Type 0} {s : ℕ} {D limits : List ℕ} {x : ℕ} where
-  -- at first it stays
-  pub falling-start : Limits L s D limits → Falling L s D limits x (at limits x)
-  falling-start h = record { low = omega arith; none = λ t l m n e p. omega (arith, rw e at (h.limit t m n p)) }
-
-  -- one street less
-  pub falling-more : {e : ℕ} → 0 < e → (at D (e - 1) ≡ x → L (e - 1) → ⊥) → Falling L s D limits x e → Falling L s D limits x (e - 1)
-  falling-more {e} some out f =
-      record {
-        low = omega (arith, f.low);
-        none = λ t l m n q p. by_cases (ℕ_discrete t (e - 1)) (λ u. out (rw u at q) (rw u at p)) (λ u. f.none t (omega arith) m n q p);
-      }
-
   module _ {e : ℕ} (fits : x < length limits) (f : Falling L s D limits x e) where
     new : at (set limits x e) x ≡ e
     new = get_or-set_same limits x e 0 fits
@@ -106,14 +77,6 @@ module _ {L : ℕ → Type 0} {s : ℕ} {D limits : List ℕ} {x : ℕ} where
       where
         own : (t : ℕ) → s < t → t < length D → L t → at D t ≡ x → t < at (set limits x e) (at D t)
         own t l m p q = rw (q, new) (by_cases (dec_lt t e) (λ o. o) (λ o. absurd (f.none t (omega arith) l m q p)))
-
-    -- the street just below e stands there
-    pub fallen-last : s + 1 < e → e ≤ length D → at D (e - 1) ≡ x → LastAt D s (set limits x e) x
-    fallen-last l m q = (e - 1, rw new (omega arith), record { after = omega arith; street = omega arith; stands = q })
-
-    -- or e is not later than s
-    pub fallen-end : e ≤ s + 1 → at (set limits x e) x ≤ s + 1
-    fallen-end l = rw new l
 
 -- the street that comes last before the limit of a site
 pub last-street : (D : List ℕ) (s : ℕ) (limits : List ℕ) (x : ℕ) → LastAt D s limits x → (at limits x - 1 + 1 ≡ at limits x) × Later D s (at limits x - 1) x

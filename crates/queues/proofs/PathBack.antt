@@ -5,50 +5,13 @@ use mathlib.Core.Bool.{Bool}
 use mathlib.Core.Logic.{◌≢◌}
 use mathlib.Core.List.{List, [], ◌∷◌}
 use Prim.Native.Nat.{ℕ, ◌+◌, ◌≤◌, ◌<◌}
-use native.Mathlib.Nat.{le_antisymm}
 use native.Mathlib.Omega.{arith}
 use lib.ListN.{length, set, length-set}
 use lib.Seq.{get_or-set_same, get_or-set_other}
-use borrow.Author.Count.{below_more}
 use Rattle.counting.specs.Lists.{at}
-use Rattle.division.specs.Prices.{Tight}
 use Rattle.division.proofs.Chain.{over-on, over-total}
 use Rattle.queues.specs.Queue.{Differ, Later, Queue, Grown}
-use Rattle.queues.specs.PathBack.{Lowest, Turning, Turned}
-
-module _ {v : ℕ → ℕ → ℕ} {d : ℕ → ℕ} {D : List ℕ} {s : ℕ} {sites : List ℕ} where
-  -- of the start alone, the start is the lowest
-  pub lowest_start : at sites 0 ≡ at D s → Lowest v d D s 1 sites 0
-  lowest_start e =
-      record {
-        within = omega arith;
-        tight = rw e refl;
-        low = λ j l t. let z : j ≡ 0 = omega arith in rw z (omega arith);
-      }
-
-  module _ {k p : ℕ} (h : Lowest v d D s k sites p) where
-    -- one place more, whose site is lower and tight
-    pub lowest-new : at sites k < at sites p → Tight v d D s (at sites k) → Lowest v d D s (k + 1) sites k
-    lowest-new l t =
-        record {
-          within = omega arith;
-          tight = t;
-          low = below_more (λ j. Tight v d D s (at sites j) → at sites k ≤ at sites j) k (λ j m e. omega (arith, h.low j m e)) (λ e. omega arith);
-        }
-
-    -- or is not
-    pub lowest-keep : (Tight v d D s (at sites k) → at sites p ≤ at sites k) → Lowest v d D s (k + 1) sites p
-    lowest-keep l =
-        record {
-          within = omega (arith, h.within);
-          tight = h.tight;
-          low = below_more (λ j. Tight v d D s (at sites j) → at sites p ≤ at sites j) k h.low l;
-        }
-
--- all places have been looked at
-pub lowest-end : {v : ℕ → ℕ → ℕ} {d : ℕ → ℕ} {D : List ℕ} {s : ℕ} {sites : List ℕ} {p : ℕ} (i k : ℕ) → k ≤ i → i ≤ k → Lowest v d D s i sites p
-    → Lowest v d D s k sites p
-lowest-end i k a b h = rw (le_antisymm b a) at h
+use Rattle.queues.specs.PathBack.{Turning, Turned}
 
 -- the path back from a place of the queue
 pub path-back : {v : ℕ → ℕ → ℕ} {d : ℕ → ℕ} {D : List ℕ} {s w k : ℕ} {sites streets nexts : List ℕ} {flags : List Bool} {i : ℕ} (q : ℕ) → q < k

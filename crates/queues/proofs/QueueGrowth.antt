@@ -5,7 +5,7 @@ use mathlib.Core.Bool.{Bool, true, false, true≢false}
 use mathlib.Core.Logic.{◌≢◌, by_cases}
 use mathlib.Core.List.{List}
 use Prim.Native.Nat.{ℕ, zero, suc, ◌+◌, ◌≤◌, ◌<◌}
-use native.Mathlib.Nat.{le_of_suc-le-suc, le_antisymm}
+use native.Mathlib.Nat.{le_of_suc-le-suc}
 use native.Mathlib.Numerals.{lt_of_le_of_ne}
 use native.Mathlib.Decide.{ℕ_discrete, dec_lt}
 use native.Mathlib.Omega.{arith}
@@ -159,16 +159,6 @@ module _ {v : ℕ → ℕ → ℕ} {d : ℕ → ℕ} {D : List ℕ} {s w : ℕ} 
           done = below_more (λ j. Shut v d D s flags (at sites j) 0) i g.done (λ t m n a. h.here t (omega arith) n a);
         }
 
-    -- a street whose site is in the queue, or that is not tight, changes nothing
-    pub growing-keep : {u : ℕ} → Growing v d D s w k sites streets nexts flags i (u + 1)
-        → (flag flags (at D u) ≡ false → Tight v d D u (at sites i) → ⊥) → Growing v d D s w k sites streets nexts flags i u
-    growing-keep {u} h n =
-        record {
-          grown = h.grown;
-          place = h.place;
-          here = λ t m l a f y. by_cases (ℕ_discrete t u) (λ q. n (rw q at f) (rw q at y)) (λ o. h.here t (omega arith) l a f y);
-        }
-
     module _ {u : ℕ} (h : Growing v d D s w k sites streets nexts flags i (u + 1)) (after : s < u) (street : u < length D) (small : at D u < w)
         (wide : at D u < length flags) (new : flag flags (at D u) ≡ false) (tight : Tight v d D u (at sites i)) (sites' streets' nexts' : List ℕ)
         (gs : Grows sites sites' k (at D u)) (gt : Grows streets streets' k u) (gn : Grows nexts nexts' k i) where
@@ -224,11 +214,6 @@ module _ {v : ℕ → ℕ → ℕ} {d : ℕ → ℕ} {D : List ℕ} {s w : ℕ} 
             place = omega (arith, h.place);
             here = here (rw (gs.same i h.place) (shut (at sites i) (u + 1) h.here));
           }
-
-  -- every place has been looked at
-  pub grown-end : {k : ℕ} {sites streets nexts : List ℕ} {flags : List Bool} (i : ℕ) → k ≤ i → i ≤ k → Grown v d D s w k sites streets nexts flags i
-      → Grown v d D s w k sites streets nexts flags k
-  grown-end {k} i a b g = let e : i ≡ k = le_antisymm b a in rw e at g
 
   -- a queue of which every place has been looked at is a cut
   pub cut_of : {k : ℕ} {sites streets nexts : List ℕ} {flags : List Bool} (c : List ℕ) → Priced v d c D

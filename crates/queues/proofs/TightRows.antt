@@ -9,14 +9,14 @@ use Prim.Native.Nat.{ℕ, ◌+◌, ◌-◌, ◌*◌, ◌≤◌, ◌<◌}
 use native.Mathlib.Nat.{mul-le-mul}
 use native.Mathlib.Decide.{dec_lt}
 use native.Mathlib.Omega.{arith}
-use lib.ListN.{length, set, replicate, length-replicate}
+use lib.ListN.{length, set}
 use lib.Seq.{get_or-set_same, get_or-set_other}
 use borrow.Author.Count.{below_more}
 use Rattle.counting.specs.Bounds.{most_streets, most_width}
 use Rattle.counting.specs.Lists.{at}
 use Rattle.counting.proofs.Tables.{in_rows}
 use Rattle.queues.specs.Queue.{Grown, Growing}
-use Rattle.queues.specs.Tights.{Row, RowOf, Listed, Rowed, Rows, most_tights}
+use Rattle.queues.specs.Tights.{Row, RowOf, Listed, Rowed, most_tights}
 use Rattle.queues.proofs.QueueGrowth.{growing-start, growing-skip}
 use Rattle.division.specs.Prices.{Tight, Agree}
 
@@ -33,17 +33,6 @@ module _ {v : ℕ → ℕ → ℕ} {d : ℕ → ℕ} {D : List ℕ} where
       }
 
   module _ {tights : List ℕ} {r e y u : ℕ} (h : Row v d D tights r e y u) where
-    -- a street that is not tight stays out
-    pub row_keep : (Tight v d D u y → ⊥) → Row v d D tights r e y (u + 1)
-    row_keep loose =
-        record {
-          fits = omega (arith, h.fits);
-          bottom = h.bottom;
-          street = λ j l m. omega (arith, h.street j l m);
-          gap = h.gap;
-          above = below_more (λ t. at tights (r + e) < t → Tight v d D t y → ⊥) u h.above (λ l. loose);
-        }
-
     -- a place that is not 0 is not the first
     pub row-some : (j : ℕ) → 0 < at tights (r + j) → 0 < j
     row-some j m =
@@ -95,11 +84,6 @@ module _ {v : ℕ → ℕ → ℕ} {d : ℕ → ℕ} {D : List ℕ} where
   pub row-stored : {tights : List ℕ} (ends : List ℕ) (y e : ℕ) → y < length ends → Row v d D tights (y * (length D + 1)) e y (length D)
       → RowOf v d D tights (set ends y e) y
   row-stored ends y e l h = rw (get_or-set_same ends y e 0 l) h
-
-  -- the site k has no share, and needs no row
-  pub listed-skip : (shares tights ends : List ℕ) (k : ℕ) → at shares k ≡ 0 → Listed v d D shares k tights ends → Listed v d D shares (k + 1) tights ends
-  listed-skip shares tights ends k e h =
-      below_more (λ y. 0 < at shares y → RowOf v d D tights ends y) k h (λ l. absurd (omega arith))
 
   -- the site k has its row, and those below it have kept theirs
   pub listed_more : (shares tights ends : List ℕ) (k : ℕ) (now now_ends : List ℕ) → Agree tights now (k * (length D + 1)) → Agree ends now_ends k
@@ -157,22 +141,11 @@ row_back {v} {d} {D} {E} tights ends y long back h = rw long row
       above = λ t l a e. h.above t l a (back t l e);
     }
 
--- lists of the same lengths have room for the rows of as many streets
-pub rows_same : {w n : ℕ} (k : ℕ) (tights ends now now_ends : List ℕ) → k ≡ n → length now ≡ length tights → length now_ends ≡ length ends
-    → Rows w n tights ends → Rows w k now now_ends
-rows_same {w} {n} k tights ends now now_ends e a b (c, d) = rw e (omega arith, omega arith)
-
--- a table of at most as many sites and streets is small
-area : (w n : ℕ) → w ≤ most_width → n ≤ most_streets → w * (n + 1) ≤ most_tights
-area w n few many = omega (arith, mul-le-mul {n₁ = w} {m₁ = n + 1} {n₂ = most_width} {m₂ = most_streets + 1} few (omega arith))
-
--- so there is room for all rows
-pub rows-room : (w n : ℕ) → w ≤ most_width → n ≤ most_streets → Rows w n (replicate most_tights 0) (replicate most_width 0)
-rows-room w n few many = (rw length-replicate (area w n few many), rw length-replicate few)
-
--- and a row's places are within the table
-pub row_fits : {w n : ℕ} (tights : List ℕ) (y e : ℕ) → y < w → e ≤ n → w ≤ most_width → n ≤ most_streets → w * (n + 1) ≤ length tights
-    → (y * (n + 1) + e < length tights) × (y * (n + 1) + e < most_tights)
-row_fits {w} {n} tights y e l m few many fit =
-    let within : y * (n + 1) + e < w * (n + 1) = in_rows y w (n + 1) e l (omega arith) in
-    (omega arith, omega (arith, area w n few many))
+-- a row's places are within a table with rows for the most sites and the most streets
+pub row_fits : {w n : ℕ} (y e : ℕ) → y < w → e ≤ n → w ≤ most_width → n ≤ most_streets → y * (n + 1) + e < most_tights
+row_fits {w} {n} y e l m few many =
+    omega (
+      arith,
+      in_rows y w (n + 1) e l (omega arith),
+      mul-le-mul {n₁ = w} {m₁ = n + 1} {n₂ = most_width} {m₂ = most_streets + 1} few (omega arith),
+    )

@@ -1,3 +1,5 @@
+pub mod Priced
+pub mod Places
 pub mod Queue
 pub mod Limits
 pub mod PathBack

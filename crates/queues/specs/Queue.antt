@@ -21,13 +21,6 @@ pub record PricedTable (values prices D : List ℕ) (w : ℕ) : Type 0 where
 abbrev pub Tells : Bool → Type 0 → Type 0
 Tells r fact = (r ≡ true → fact) × (r ≡ false → fact → ⊥)
 
--- the buffers of the queue have a place for each site
-pub record Room (w : ℕ) (streets nexts sites : List ℕ) (flags : List Bool) : Type 0 where
-  pub streets-fit : w ≤ length streets
-  pub nexts-fit : w ≤ length nexts
-  pub sites-fit : w ≤ length sites
-  pub flags-fit : w ≤ length flags
-
 -- the flag of a site
 abbrev pub flag : List Bool → ℕ → Bool
 flag flags x = get_or flags x false

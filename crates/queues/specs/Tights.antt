@@ -30,7 +30,3 @@ Rowed v d D tights ends = (t : ℕ) → t < length D → RowOf v d D tights ends
 -- the cells of a table with rows for the most sites and the most streets
 abbrev pub most_tights : ℕ
 most_tights = most_width * (most_streets + 1)
-
--- the table has room for a row for each of w sites
-abbrev pub Rows : ℕ → ℕ → List ℕ → List ℕ → Type 0
-Rows w n tights ends = (w * (n + 1) ≤ length tights) × (w ≤ length ends)

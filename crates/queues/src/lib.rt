@@ -4,5 +4,6 @@
 
 pub mod limits;
 pub mod path_back;
+pub mod price_table;
 pub mod queue;
 pub mod tights;

@@ -3,16 +3,17 @@
 use mathlib.Core.Path.{◌≡◌, refl, sym, ap, ◌∙◌}
 use mathlib.Core.Logic.{◌≢◌, by_cases}
 use mathlib.Core.List.{List}
-use Prim.Native.Nat.{ℕ, zero, suc, ◌+◌, ◌≤◌, ◌<◌}
-use native.Mathlib.Nat.{le_antisymm}
+use Prim.Native.Nat.{ℕ, zero, suc, ◌+◌, ◌-◌, ◌≤◌, ◌<◌}
 use native.Mathlib.Decide.{ℕ_discrete}
 use native.Mathlib.Numerals.{add-one}
 use native.Mathlib.Omega.{arith}
 use lib.Dec.{eqb}
-use lib.ListN.{length, set, length-set}
+use lib.ListN.{length, set, length-set, get_or, drop, length-drop}
+use Rattle.std.proofs.Common.{length-take}
 use lib.Seq.{get_or-set_same, get_or-set_other}
 use Rattle.counting.specs.Words.{one}
 use Rattle.counting.specs.Lists.{at, count}
+use Rattle.counting.proofs.Parts.{part, part_length, part_at}
 use Rattle.division.specs.Shares.{InShares, division_total}
 use Rattle.division.proofs.Counts.{count-total}
 use Rattle.division.proofs.Chain.{division_total-set, over_done}
@@ -42,9 +43,20 @@ pub moved_more : (D E : List ℕ) (ts xs : ℕ → ℕ) (i q : ℕ) → E ≡ mo
 unfolding moved
 moved_more D E ts xs i q e = rw (add-one q, e) refl
 
--- the loop has come to the chain's end
-pub moved-end : (D E : List ℕ) (ts xs : ℕ → ℕ) (i q n : ℕ) → n ≤ q → q ≤ n → E ≡ moved D ts xs i q → E ≡ moved D ts xs i n
-moved-end D E ts xs i q n a b e = rw (le_antisymm b a) at e
+-- the pair of a street and a site that the loop comes to next is the chain's next move
+pub next-move : (streets sites : List ℕ) (from count q t x : ℕ) → from + count ≤ length streets
+    → (q < length (part from (from + count) streets)) × (q < length (part (from + 1) (length sites) sites))
+    × ((d : ℕ) → t ≡ get_or (part from (from + count) streets) q d) × ((d : ℕ) → x ≡ get_or (part (from + 1) (length sites) sites) q d)
+    → (q < count) × (t ≡ at streets (from + q)) × (x ≡ at sites (from + q + 1))
+next-move streets sites from count q t x fits (low, behind, street, site) =
+    let less : q < count = omega (arith, low, part_length from (from + count) streets fits) in
+    let long = length-take (length sites - (from + 1)) (drop (from + 1) sites) in
+    let within : from + 1 + q < length sites = omega (arith, behind, long, length-drop (from + 1) sites) in
+    let place : from + q + 1 ≡ from + 1 + q = omega arith in (
+      less,
+      street 0 ∙ part_at from (from + count) streets fits q (omega arith),
+      rw place (site 0 ∙ part_at (from + 1) (length sites) sites (omega arith) q within),
+    )
 
 -- where no move of a closed chain begins, none ends
 none-ends : (xs : ℕ → ℕ) (i q a : ℕ) → xs (i + q) ≡ xs i → ((l : ℕ) → i ≤ l → l < i + q → xs l ≢ a) → (l : ℕ) → i ≤ l → l < i + q → xs (l + 1) ≢ a

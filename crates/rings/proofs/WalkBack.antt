@@ -4,12 +4,15 @@
 use mathlib.Core.Path.{◌≡◌, refl, sym, ap, subst, ◌∙◌}
 use mathlib.Core.Logic.{◌≢◌, ⊎_elim}
 use mathlib.Core.List.{List}
-use Prim.Native.Nat.{ℕ, ◌+◌, ◌≤◌, ◌<◌}
+use Prim.Native.Nat.{ℕ, ◌+◌, ◌-◌, ◌≤◌, ◌<◌}
 use native.Mathlib.Nat.{eq-or-lt_of_le}
 use native.Mathlib.Omega.{arith}
 use lib.ListN.{length, set}
+use Rattle.std.specs.Prelude.{Some, None}
 use lib.Seq.{get_or-set_same, get_or-set_other}
+use Rattle.counting.specs.Bounds.{most_width}
 use Rattle.counting.specs.Lists.{at, cell}
+use Rattle.counting.proofs.Parts.{part, part_length, part_at}
 use Rattle.counting.proofs.Tables.{in_rows, pigeon}
 use Rattle.rings.specs.Rings.{Walkable, Linked, Apart, Walked, Found, Linkable}
 
@@ -29,64 +32,63 @@ stored_here list new l x h e = ap (λ (z : List ℕ). at z l) e ∙ get_or-set_s
 stored-above : (list new : List ℕ) (l x : ℕ) → new ≡ set list l x → (q : ℕ) → l < q → at new q ≡ at list q
 stored-above list new l x e q m = ap (λ (z : List ℕ). at z q) e ∙ get_or-set_other list l q x 0 (λ p. omega arith)
 
--- the site x has none of the places looked at, and not the next one
-pub not-next : (xs : ℕ → ℕ) (from p x : ℕ) → ((j : ℕ) → from ≤ j → j < p → xs j ≢ x) → xs p ≢ x → (j : ℕ) → from ≤ j → j < p + 1 → xs j ≢ x
-not-next xs from p x h n j a m = ⊎_elim (λ e. subst (λ (z : ℕ). xs z ≢ x) (sym e) n) (h j a) (eq-or-lt_of_le (omega arith))
+-- what was found or not in the layers from l + 1 to k, by the layers' numbers
+met : (sites : List ℕ) (l k q : ℕ) → k < length sites → l + 1 + q ≤ k → at (part (l + 1) (k + 1) sites) q ≡ at sites (l + 1 + q)
+met sites l k q fits m = part_at (l + 1) (k + 1) sites (omega arith) q (omega arith)
 
-module _ {k : ℕ} {xs : ℕ → ℕ} where
-  -- the sites from layer l on differ up to the first meeting with the site of layer l
-  apart-to : (l j : ℕ) → Apart xs (l + 1) k → Found xs (l + 1) (k + 1) (xs l) j → (p q : ℕ) → l ≤ p → p < q → q < j → q ≤ k → xs p ≢ xs q
-  apart-to l j h f p q a m b n =
-      from-here (λ (z : ℕ). z < q → xs z ≢ xs q) l (λ o e. f.before q (omega arith) b (sym e)) (λ z o i. h z q (omega arith) i n) p a m
+unmet : (sites : List ℕ) {x : ℕ} (l k j : ℕ) → k < length sites → j ≤ k + 1
+    → ((q : ℕ) → l + 1 + q < j → at (part (l + 1) (k + 1) sites) q ≢ x) → (q : ℕ) → l < q → q < j → at sites q ≢ x
+unmet sites l k j fits m h q a b e =
+    let place : l + 1 + (q - (l + 1)) ≡ q = omega arith in
+    h (q - (l + 1)) (omega arith) (rw (met sites l k (q - (l + 1)) fits (omega arith), place) e)
 
-  -- without a meeting the sites from layer l on differ
-  pub apart_more : (l j : ℕ) → Apart xs (l + 1) k → Found xs (l + 1) (k + 1) (xs l) j → k < j → Apart xs l k
-  apart_more l j h f m p q a n b = apart-to l j h f p q a n (omega arith) b
+-- the sites from layer l on differ up to the first layer j that has the site of layer l again
+apart-to : {k : ℕ} {xs : ℕ → ℕ} (l j : ℕ) → Apart xs (l + 1) k → ((q : ℕ) → l < q → q < j → xs q ≢ xs l)
+    → (p q : ℕ) → l ≤ p → p < q → q < j → q ≤ k → xs p ≢ xs q
+apart-to {xs = xs} l j h before p q a m b n =
+    from-here (λ (z : ℕ). z < q → xs z ≢ xs q) l (λ o e. before q (omega arith) b (sym e)) (λ z o i. h z q (omega arith) i n) p a m
 
-module _ {via : ℕ → ℕ → ℕ} {D : List ℕ} {w k : ℕ} {ts xs : ℕ → ℕ} where
-  -- a meeting at layer j closes the chain of q moves from layer l
-  pub closes : (l q j : ℕ) → Linked via D w k l ts xs → Apart xs (l + 1) k → Found xs (l + 1) (k + 1) (xs l) j → j ≤ k → l + q ≡ j
-      → Walked via D w k ts xs l q
-  closes l q j h s f m e =
+-- without a meeting the sites from layer l on differ
+pub apart_more : {k : ℕ} (sites : List ℕ) (l : ℕ) → k < length sites → Apart (at sites) (l + 1) k
+    → Found (part (l + 1) (k + 1) sites) (at sites l) None → Apart (at sites) l k
+apart_more {k} sites l fits h none p q a m b =
+    apart-to l (k + 1) h
+    (unmet sites l k (k + 1) fits (omega arith) (λ r o. none r (omega (arith, part_length (l + 1) (k + 1) sites (omega arith))))) p q a m (omega arith) b
+
+module _ {via : ℕ → ℕ → ℕ} {D : List ℕ} {w k : ℕ} {ts : ℕ → ℕ} (sites : List ℕ) where
+  -- a meeting closes the chain of moves from layer l
+  pub closes : (l q : ℕ) → k < length sites → l < k → Linked via D w k l ts (at sites) → Apart (at sites) (l + 1) k
+      → Found (part (l + 1) (k + 1) sites) (at sites l) (Some q) → Walked via D w k ts (at sites) l (q + 1)
+  closes l q fits less h s (low, here, none) =
+      let within : l + 1 + q ≤ k = omega (arith, low, part_length (l + 1) (k + 1) sites (omega arith)) in
+      let before = unmet sites l k (l + 1 + q) fits (omega arith) (λ r o. none r (omega arith)) in
+      let end : l + (q + 1) ≡ l + 1 + q = omega arith in
       record {
-        none = λ z. absurd (omega (arith, f.low));
+        some = omega arith;
         fits = omega arith;
         trail =
             record {
               street = λ p a b. h.street p a (omega arith);
               site = λ p a b. h.left p a (omega arith);
-              differ = λ p r a n b. apart-to l j s f p r a n (omega arith) (omega arith);
+              differ = λ p r a n b. apart-to l (l + 1 + q) s before p r a n (omega arith) (omega arith);
             };
-        closed = rw e (f.here (omega arith));
+        closed = rw end (sym (met sites l k q fits within) ∙ here);
         by = λ p a b. h.by p a (omega arith);
         site = λ p a b. h.site p a (omega arith);
       }
 
-  -- a walk that comes to layer 0 without a meeting has passed different sites alone
-  pub ends : (l : ℕ) → l ≤ 0 → Linked via D w k l ts xs → Apart xs l k → Walked via D w k ts xs 0 0
-  ends l z h s =
-      let many : k + 1 ≤ w = pigeon w (k + 1) xs (λ p q m b. s p q (omega arith) m (omega arith)) (λ p b. h.site p (omega arith) (omega arith)) in
-      record {
-        none = λ e. omega (arith, many);
-        fits = omega arith;
-        trail =
-            record {
-              street = λ p a b. absurd (omega arith);
-              site = λ p a b. absurd (omega arith);
-              differ = λ p q a m b. absurd (omega arith);
-            };
-        closed = refl;
-        by = λ p a b. absurd (omega arith);
-        site = λ p a b. h.site p (omega arith) (omega arith);
-      }
+-- a walk that comes to layer 0 without a meeting has passed different sites alone
+pub fewer : {via : ℕ → ℕ → ℕ} {D : List ℕ} {w k : ℕ} {ts xs : ℕ → ℕ} (l : ℕ) → l ≤ 0 → Linked via D w k l ts xs → Apart xs l k → k < w
+fewer {w = w} {k} {xs = xs} l z h s =
+    omega (arith, pigeon w (k + 1) xs (λ p q m b. s p q (omega arith) m (omega arith)) (λ p b. h.site p (omega arith) (omega arith)))
 
-module _ {vias D : List ℕ} {w k b : ℕ} {streets sites : List ℕ} (given : Walkable vias D w k b streets sites) where
+module _ {vias D : List ℕ} {w k b : ℕ} (given : Walkable vias D w k b) where
   -- the walk starts at the raised site
-  pub linked-start : (ts : List ℕ) {xs : List ℕ} → xs ≡ set sites k b → Walking vias D w k k k ts xs
-  linked-start ts {xs} e = (linked, λ p q a m n. absurd (omega arith))
+  pub linked-start : (ts sites : List ℕ) {xs : List ℕ} → length sites ≡ most_width + 1 → xs ≡ set sites k b → Walking vias D w k k k ts xs
+  linked-start ts sites {xs} size e = (linked, λ p q a m n. absurd (omega arith))
     where
       here : at xs k ≡ b
-      here = stored_here sites xs k b given.sites-fit e
+      here = stored_here sites xs k b (omega (arith, given.fits)) e
 
       linked : Linked (cell vias w) D w k k (at ts) (at xs)
       linked =
@@ -99,15 +101,13 @@ module _ {vias D : List ℕ} {w k b : ℕ} {streets sites : List ℕ} (given : W
           }
 
   -- a step down finds what it needs
-  pub linkable : (l m : ℕ) {ts xs : List ℕ} → l + 1 ≡ m → m ≤ k → length ts ≡ length streets → length xs ≡ length sites
-      → Walking vias D w k m m ts xs → Linkable vias D w l ts xs
-  linkable l m {xs = xs} e n s t (h, o) =
+  pub linkable : (l m : ℕ) (ts xs : List ℕ) → l + 1 ≡ m → m ≤ k → Walking vias D w k m m ts xs → Linkable vias D w l xs
+  linkable l m ts xs e n (h, o) =
       let site : at xs (l + 1) < w = rw e (h.site m (omega arith) n) in
       record {
         row_fits = omega (arith, in_rows l k w (at xs (l + 1)) (omega arith) site, given.layers-fit);
         raised = rw e (h.next l e);
-        streets-fit = omega (arith, given.streets-fit);
-        sites-fit = omega (arith, given.sites-fit);
+        fits = omega (arith, given.fits);
       }
 
   -- one layer more: the street that raised the site above is one of the division, and its own site was raised a layer earlier
@@ -129,13 +129,13 @@ module _ {vias D : List ℕ} {w k b : ℕ} {streets sites : List ℕ} (given : W
       }
 
   -- after a step down the walk is linked down to layer l, and the sites above still differ
-  pub linked-step : (l m : ℕ) {ts xs new-ts new-xs : List ℕ} → l + 1 ≡ m → m ≤ k → Linkable vias D w l ts xs → Walking vias D w k m m ts xs
+  pub linked-step : (l m : ℕ) (ts xs : List ℕ) {new-ts new-xs : List ℕ} → l + 1 ≡ m → m ≤ k → l < length ts → l < length xs → Walking vias D w k m m ts xs
       → new-ts ≡ set ts l (cell vias w l (at xs (l + 1))) → new-xs ≡ set xs l (at D (cell vias w l (at xs (l + 1))))
       → Walking vias D w k l (l + 1) new-ts new-xs
-  linked-step l m {ts} {xs} {new-ts} {new-xs} e n fit (h, s) t x =
+  linked-step l m ts xs {new-ts} {new-xs} e n in-ts in-xs (h, s) t x =
       let street : ℕ = cell vias w l (at xs (l + 1)) in
-      let new-t : at new-ts l ≡ street = stored_here ts new-ts l street fit.streets-fit t in
-      let new-x : at new-xs l ≡ at D street = stored_here xs new-xs l (at D street) (omega (arith, fit.sites-fit)) x in
+      let new-t : at new-ts l ≡ street = stored_here ts new-ts l street in-ts t in
+      let new-x : at new-xs l ≡ at D street = stored_here xs new-xs l (at D street) in-xs x in
       let old-t : (q : ℕ) → l < q → at new-ts q ≡ at ts q = stored-above ts new-ts l street t in
       let old-x : (q : ℕ) → l < q → at new-xs q ≡ at xs q = stored-above xs new-xs l (at D street) x in
       let apart : Apart (at new-xs) (l + 1) k = λ p q a i z. rw (old-x p (omega arith), old-x q (omega arith)) (s p q (omega arith) i z) in

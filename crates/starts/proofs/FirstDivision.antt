@@ -7,14 +7,16 @@ use Prim.Native.Nat.{ℕ, zero, suc, ◌+◌, ◌-◌, ◌*◌, ◌≤◌, ◌<�
 use native.Mathlib.Nat.{mul-le-mul, eq-zero-or-pos}
 use native.Mathlib.Numerals.{add-one, sub-one}
 use native.Mathlib.Omega.{arith}
-use borrow.Author.Count.{below_more}
+use borrow.Author.Rules.{rules}
+use Rattle.std.specs.Prelude.{Option, Some, None}
+use Rattle.std.specs.Option.{IsSome}
 use lib.Dec.{eqb}
 use lib.ListN.{length, take, set, length-set}
 use lib.Seq.{get_or-set_same, get_or-set_other, take-set-le, take_all}
 use Rattle.counting.specs.Bounds.{most_streets, most_width, most_entries}
 use Rattle.counting.specs.Words.{one}
 use Rattle.counting.specs.Lists.{at, count}
-use Rattle.counting.proofs.Sums.{at-past}
+use Rattle.counting.proofs.Sums.{at-within}
 use Rattle.counting.proofs.Tables.{row_within}
 use Rattle.division.specs.Shares.{share, less, InShares, share_sum}
 use Rattle.division.specs.Problem.{Problem, tail}
@@ -23,26 +25,14 @@ use Rattle.division.proofs.ProblemShares.{share-tail}
 use Rattle.starts.specs.Given.{Seen}
 
 -- ---- a look over the sites
--- none is looked at yet
-pub seen_start : (left : List ℕ) (site : ℕ) → Seen left 0 site 0
-seen_start left site = record { some = λ b l h. absurd (omega arith); there = λ h. absurd (omega arith) }
+-- where some site has a share left, one is found
+pub seen-some : (left : List ℕ) (best : Option ℕ) → Seen left (length left) best → (a : ℕ) × (0 < at left a) → IsSome best
+seen-some left None h (a, l) = absurd (omega (arith, h a (at-within left a l)))
+seen-some left (Some site) h p = search rules
 
--- the next site does not win: it has no share left, or another with a share left is better
-pub seen-keep : (left : List ℕ) (a site most : ℕ) → (0 < at left a → 0 < most) → Seen left a site most → Seen left (a + 1) site most
-seen-keep left a site most k h =
-    record { some = below_more (λ b. 0 < at left b → 0 < most) a h.some k; there = λ p. (omega (arith, (h.there p).0), (h.there p).1) }
-
--- the next site has a share left, and wins
-pub seen-take : (left : List ℕ) (a most : ℕ) → 0 < at left a → 0 < most → Seen left (a + 1) a most
-seen-take left a most l p = record { some = λ b k h. p; there = λ h. (omega arith, l) }
-
--- all are looked at: where some site has a share left, the one that is found has one
-pub seen_end : (left : List ℕ) (a site most b : ℕ) → length left ≤ a → a ≤ length left → 0 < at left b → Seen left a site most
-    → (site < length left) × (0 < at left site)
-seen_end left a site most b l m h s =
-    let far : ¬ (length left ≤ b) = λ k. omega (arith, at-past left b k) in
-    let (low, some) = s.there (s.some b (omega (arith, far)) h) in
-    (omega arith, some)
+-- and it has a share left
+pub seen-left : (left : List ℕ) {best : Option ℕ} (site : ℕ) → Seen left (length left) best → best ≡ Some site → 0 < at left site
+seen-left left site h e = (rw e at h).1
 
 -- ---- the streets one by one
 -- where a street's row of values ends

@@ -25,10 +25,6 @@ pub record Sharing (q : ℕ → ℕ) (m : ℕ) (sites shares : List ℕ) (i : �
   pub given : (j : ℕ) → j < i → at shares (at sites j) ≡ q j
   pub none : (a : ℕ) → ((j : ℕ) → j < i → at sites j ≢ a) → at shares a ≡ 0
 
--- no site has a share yet
-pub sharing-none : (q : ℕ → ℕ) {n m : ℕ} {sites shares : List ℕ} → Unshared n m sites shares → Sharing q m sites shares 0
-sharing-none q h = record { size = h.size; given = λ j l. absurd (omega arith); none = λ a o. h.none a }
-
 -- one site more gets its share
 module _ (q : ℕ → ℕ) (m : ℕ) (sites shares : List ℕ) (i x : ℕ) (apart : distinct sites ≡ true) (l : i < length sites) (low : at sites i ≤ m) (e : x ≡ q i)
     (h : Sharing q m sites shares i) where

@@ -1,6 +1,6 @@
 -- What the functions that make shares and a first division are given, and what a look over the sites has found.
 -- Assumes nothing.
-use Rattle.std.specs.Prelude.{◌≡◌, true, List, ℕ, ◌+◌, ◌≤◌, ◌<◌, length}
+use Rattle.std.specs.Prelude.{◌≡◌, true, List, ℕ, ◌+◌, ◌≤◌, ◌<◌, length, Option, MatchOption}
 use Rattle.counting.specs.Bounds.{most_streets}
 use Rattle.counting.specs.Lists.{at, distinct}
 use Rattle.counting.specs.Sites.{Sites}
@@ -22,7 +22,6 @@ pub record Shared (n m : ℕ) (sites shares : List ℕ) : Type 0 where
   pub nobody : at shares 0 ≡ 0
   pub right : tail shares ≡ shares_of (round_share n (length sites)) sites m
 
--- the sites below a are looked at: `most` is above 0 where one of them has a share left, and then `site` is such a site
-pub record Seen (left : List ℕ) (a site most : ℕ) : Type 0 where
-  pub some : (b : ℕ) → b < a → 0 < at left b → 0 < most
-  pub there : 0 < most → (site < a) × (0 < at left site)
+-- the sites below a are looked at: `best` is one of them that has a share left, and none where none of them has
+abbrev pub Seen : List ℕ → ℕ → Option ℕ → Type 0
+Seen left a best = MatchOption best ((b : ℕ) → b < a → at left b ≡ 0) (λ site. (site < a) × (0 < at left site))

@@ -12,48 +12,37 @@ pub fn share_out(n: usize, m: usize, sites: &[u8], shares: &mut [u16])
     requires { Unshared n m sites.now shares.old }
     ensures { Shared n m sites.now shares.new }
 {
-    for i in 0..sites.len() {
-        let a = sites[i] as usize;
+    for (i, site) in sites.iter().enumerate() {
+        let a = usize::from(*site);
         shares[a] = shares::of_round(n, sites.len(), i) as u16;
     }
 }
 
-// The best site so far that has a share left, and 1 more than its value; 0 while there is none.
-#[derive(Drop)]
-struct Found {
-    site: usize,
-    most: u64,
-}
-
-// The better of the best so far and the site a, which must have a share left and be better to win.
-fn better(found: Found, row: &[u32], left: &[u16], a: usize) -> Found
+// The better of the best site so far and the site a, which must have a share left and be better to win.
+fn better(best: Option<usize>, row: &[u32], left: &[u16], a: usize) -> Option<usize>
     requires row_len { (length row.now ≡ length left.now) × (a < length left.now) }
-    requires seen { Seen left.now a found.site found.most }
-    ensures { Seen left.now (a + 1) result.site result.most }
+    requires seen { Seen left.now a best }
+    ensures { Seen left.now (a + 1) result }
 {
     if left[a] == 0 {
-        return found;
+        return best;
     }
-    let value = row[a] as u64;
-    if value < found.most {
-        return found;
-    }
-    Found {
-        site: a,
-        most: value + 1,
+    match best {
+        Some(b) if row[a] <= row[b] => best,
+        _ => Some(a),
     }
 }
 
-// The site that a street gives most among those that have a share left, the lowest number of equals.
-fn best_left(row: &[u32], left: &[u16]) -> usize
-    requires { (length row.now ≡ length left.now) × ((a : ℕ) × (0 < at left.now a)) }
-    ensures { (result < length left.now) × (0 < at left.now result) }
+// The site that a street gives most among those that have a share left, the lowest number of equals; none where no share is left.
+fn best_left(row: &[u32], left: &[u16]) -> Option<usize>
+    requires { length row.now ≡ length left.now }
+    ensures { Seen left.now (length left.now) result }
 {
-    let mut found = Found { site: 0, most: 0 };
+    let mut best = None;
     for a in 0..left.len() {
-        found = better(found, row, left, a);
+        best = better(best, row, left, a);
     }
-    found.site
+    best
 }
 
 // Each street in turn goes to the site that it gives most among those that have a share left, so that few streets are left to move.
@@ -62,13 +51,13 @@ pub fn begin(values: &[u32], shares: &[u16], left: &mut [u16], division: &mut [u
     requires shares_value { (share_sum (tail shares.now) ≡ length division.old) × (length left.old ≡ length shares.now) }
     ensures { InShares division.new (tail shares.now) }
 {
-    buffers::copy_words(shares, left);
+    left.copy_from_slice(shares);
     let w = shares.len();
-    for s in 0..division.len() {
+    for (s, site) in division.iter_mut().enumerate() {
         let from = s * w;
         let to = from + w;
-        let a = best_left(&values[from..to], left);
-        left[a] = left[a] - 1;
-        division[s] = a as u8;
+        let a = best_left(&values[from..to], left).unwrap();
+        left[a] -= 1;
+        *site = a as u8;
     }
 }

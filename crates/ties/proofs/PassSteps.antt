@@ -27,7 +27,7 @@ use Rattle.queues.specs.Queue.{PricedTable, flag, Later, Grown}
 use Rattle.queues.specs.Limits.{Leaver, Limits, Raised}
 use Rattle.queues.specs.PathBack.{Lowest, Turned}
 use Rattle.queues.specs.Tights.{Rowed}
-use Rattle.ties.specs.Standing.{Prices, Aim, Standing, Pass}
+use Rattle.ties.specs.Standing.{Prices, Loose, Aim, Standing, Pass}
 use Rattle.queues.proofs.QueueGrowth.{cut_of}
 use Rattle.queues.proofs.TightRows.{row_back}
 use Rattle.queues.proofs.PathBack.{swapped}
@@ -96,7 +96,6 @@ module _ {values shares prices D tights ends limits : List ℕ} {s : ℕ} (pass 
         problem = pass.problem;
         price = pass.price;
         standing = h;
-        rows = pass.rows;
         listed = pass.listed;
         fits = omega (arith, pass.fits);
         limited = k;
@@ -130,7 +129,6 @@ module _ {values shares prices D tights ends limits : List ℕ} {s : ℕ} (pass 
             first = rw (add-one s) (first_step v (at prices) (tail shares) D h.within h.priced s l R cut E
                 (record { total = total; before = before; low = low }) h.first);
           };
-          rows = rw long pass.rows;
           listed = λ y small held. row_back tights ends y long (λ t. tight-back t y) (pass.listed y small held);
           fits = omega (arith, pass.fits);
           limited = limits-next (limits-fewer k (λ t m. leaver-back t (rw long at m)));
@@ -147,8 +145,8 @@ module _ {values shares prices D tights ends limits : List ℕ} {s : ℕ} (pass 
         pass_step E turned.long (λ z. turned.counts z ∙ h.within z) total (flag flags) (cut_of (tail shares) h.priced g) turned.before
         (λ b y held t. let (j, m, e) = g.placed.only b y in omega (arith, turned.moved, lowest.low j m (rw e t), e)) l
 
-    -- it goes to the lowest site that it may go to and that can be left
-    module _ {b : ℕ} (aim : Aim v (at prices) shares limits D s b) where
+    -- it goes to a site below which it may go to none that can be left
+    module _ {b : ℕ} (within : b ≤ at D s) (loose : Loose v (at prices) shares limits D s b) where
       kept : (t : ℕ) → s < t → t < length D → reached limits D s (at D t) ≡ false → (a : ℕ) → 0 < share (tail shares) a
           → reached limits D s a ≡ true → Tight v (at prices) D t a → ⊥
       kept t m n out a held inside e =
@@ -164,7 +162,7 @@ module _ {values shares prices D tights ends limits : List ℕ} {s : ℕ} (pass 
 
       below : (a : ℕ) → reached limits D s a ≡ true → 0 < share (tail shares) a → Tight v (at prices) D s a → a < b → ⊥
       below a inside held t m =
-          ⊎_elim (λ o. omega (arith, aim.loose a m (omega (arith, share-tail shares pass.problem.nobody a)) t)) (λ q. omega (arith, aim.within))
+          ⊎_elim (λ o. omega (arith, loose a m (omega (arith, share-tail shares pass.problem.nobody a)) t)) (λ q. omega (arith, within))
           (reached-some limits D s a inside)
 
       pass-aimed : (E : List ℕ) → length E ≡ length D → InShares E (tail shares) → division_total v E ≡ division_total v D → Agree D E s → at E s ≡ b
@@ -174,15 +172,15 @@ module _ {values shares prices D tights ends limits : List ℕ} {s : ℕ} (pass 
           pass_step E long same total (reached limits D s) cut before
           (λ a inside held t. by_order a b (λ m. absurd (below a inside held t m)) (λ e. omega arith) (λ m. omega arith)) l
 
-      -- it stands there
-      pub pass-still : b ≡ at D s → Pass values shares prices D tights ends limits (s + 1)
-      pass-still e = pass-aimed D refl h.within refl (λ t m. refl) (sym e) limits refl pass.limited
+    -- it stays where it is, where there is none below its own
+    pub pass-still : Loose v (at prices) shares limits D s (at D s) → Pass values shares prices D tights ends limits (s + 1)
+    pass-still loose = pass-aimed (omega arith) loose D refl h.within refl (λ t m. refl) refl limits refl pass.limited
 
-      -- it changes sites with a later street that stands there
-      pub pass-swapped : {t : ℕ} → b ≢ at D s → Later D s t b → Tight v (at prices) D t (at D s) → (other : List ℕ) → length other ≡ length limits
-          → Raised limits other (at D s) (t + 1) → Pass values shares prices (set (set D t (at D s)) s b) tights ends other (s + 1)
-      pass-swapped {t} away later back other e r =
-          let turned = swapped l later away in
-          let total = turned.total v (at prices) (λ j m o. let q : j ≡ 1 = omega arith in rw q back) aim.tight in
-          pass-aimed (set (set D t (at D s)) s b) turned.long (λ z. turned.counts z ∙ h.within z) total turned.before turned.moved other e
-          (limits-own (limits-move pass.limited other t (at D s) later.street r) b)
+    -- it changes sites with a later street that stands at the lowest of them
+    pub pass-swapped : {b t : ℕ} → Aim v (at prices) shares limits D s b → Later D s t b → Tight v (at prices) D t (at D s) → (other : List ℕ)
+        → length other ≡ length limits → Raised limits other (at D s) (t + 1) → Pass values shares prices (set (set D t (at D s)) s b) tights ends other (s + 1)
+    pass-swapped {b} {t} aim later back other e r =
+        let turned = swapped l later (λ q. omega (arith, aim.within)) in
+        let total = turned.total v (at prices) (λ j m o. let q : j ≡ 1 = omega arith in rw q back) aim.tight in
+        pass-aimed (omega (arith, aim.within)) aim.loose (set (set D t (at D s)) s b) turned.long (λ z. turned.counts z ∙ h.within z) total
+        turned.before turned.moved other e (limits-own (limits-move pass.limited other t (at D s) later.street r) b)

@@ -7,7 +7,7 @@ use Rattle.division.specs.Prices.{Priced, Tight, FirstTo}
 use Rattle.division.specs.Shares.{InShares}
 use Rattle.division.specs.Problem.{Problem, tail}
 use Rattle.queues.specs.Limits.{Leaver, Limits, LastAt}
-use Rattle.queues.specs.Tights.{Listed, Rows}
+use Rattle.queues.specs.Tights.{Listed}
 
 -- a price for each of w sites
 abbrev pub Prices : List ℕ → ℕ → Type 0
@@ -17,12 +17,12 @@ Prices prices w = (length prices ≡ w) × ((a : ℕ) → at prices a ≤ most_p
 abbrev pub Loose : (ℕ → ℕ → ℕ) → (ℕ → ℕ) → List ℕ → List ℕ → List ℕ → ℕ → ℕ → Type 0
 Loose v d shares limits D s u = (b : ℕ) → b < u → 0 < at shares b → Tight v d D s b → at limits b ≤ s + 1
 
--- the site b is the lowest of these, the street's own where there is no lower one
+-- the site b, below its own, is the lowest of these
 pub record Aim (v : ℕ → ℕ → ℕ) (d : ℕ → ℕ) (shares limits D : List ℕ) (s b : ℕ) : Type 0 where
-  pub within : b ≤ at D s
+  pub within : b < at D s
   pub tight : Tight v d D s b
   pub loose : Loose v d shares limits D s b
-  pub left : b < at D s → LastAt D s limits b
+  pub left : LastAt D s limits b
 
 -- the division is in the shares, the prices hold for it, and the streets before s are settled
 pub record Standing (v : ℕ → ℕ → ℕ) (d : ℕ → ℕ) (c D : List ℕ) (s : ℕ) : Type 0 where
@@ -35,7 +35,6 @@ pub record Pass (values shares prices D tights ends limits : List ℕ) (s : ℕ)
   pub problem : Problem values shares (length D)
   pub price : Prices prices (length shares)
   pub standing : Standing (cell values (length shares)) (at prices) (tail shares) D s
-  pub rows : Rows (length shares) (length D) tights ends
   pub listed : Listed (cell values (length shares)) (at prices) D shares (length shares) tights ends
   pub fits : length shares ≤ length limits
   pub limited : Limits (Leaver (cell values (length shares)) (at prices) shares D) s D limits

@@ -1,40 +1,24 @@
 use mathlib.Core.Path.{refl}
-use mathlib.Core.List.{List}
-use Prim.Native.Nat.{ℕ}
 use Rattle.chains.proofs.Layered.{Deepening, layerable, fitted, deepened, raised-row}
 use Rattle.chains.proofs.deepen.Goals as goal
 
 pub layer-requires : goal.layer-requires
 layer-requires c =
-    let deepening : let a = c.args in
-    Deepening a.values.now a.shares.now a.division.now a.k a.low.now a.prices.now a.vias.now = let p = c.requires in
-    record {
-      problem = p.problem.0;
-      shared = p.problem.1;
-      less = p.k_in_bounds.0;
-      low_fits = p.k_in_bounds.1;
-      prices-fit = p.k_in_bounds.2;
-      vias-fit = p.k_in_bounds.3;
-      searched = p.searched_2;
-    } in
-    let d = deepening in
-    record { layerable = layerable d; tables = rw d.low_fits c.requires.tables; fitting = fitted d }
+    let a = c.args in
+    let p = c.requires in
+    let d : Deepening a.problem.now.values.now a.problem.now.shares.now a.division.now a.k a.low.now a.prices.now a.vias.now =
+    record { problem = p.in_shares.0; shared = p.in_shares.1; less = p.k_in_bounds.0; buffers = p.k_in_bounds.1; searched = p.searched_2 } in
+    record { layerable = layerable d; tables = rw d.buffers.low_fits p.tables; fitting = fitted d }
 
 pub returns : goal.returns
 returns c =
-    let deepening : let a = c.args in
-    Deepening a.values.now a.shares.now a.division.now a.k a.low.now a.prices.now a.vias.now = let p = c.requires in
-    record {
-      problem = p.problem.0;
-      shared = p.problem.1;
-      less = p.k_in_bounds.0;
-      low_fits = p.k_in_bounds.1;
-      prices-fit = p.k_in_bounds.2;
-      vias-fit = p.k_in_bounds.3;
-      searched = p.searched_2;
-    } in
-    let after : List ℕ = c.layer.new.after in
-    let via : List ℕ = c.layer.new.via in
-    let d = deepening in
+    let a = c.args in
+    let p = c.requires in
+    let d : Deepening a.problem.now.values.now a.problem.now.shares.now a.division.now a.k a.low.now a.prices.now a.vias.now =
+    record { problem = p.in_shares.0; shared = p.in_shares.1; less = p.k_in_bounds.0; buffers = p.k_in_bounds.1; searched = p.searched_2 } in
     let y = c.layer in
-    let copy = c.copy_numbers in record { searched = deepened d (after) (via) y.auto.after y.auto.via y.ensures refl refl copy.ensures; raised = raised-row d (via) copy.new.buffer y.auto.via copy.auto.buffer c.highest.ensures }
+    let copy = c.copy_from_slice in
+    record {
+      searched = deepened d y.new.after y.new.via y.auto.after y.auto.via y.ensures refl refl copy.ensures.after;
+      raised = raised-row d y.new.via copy.new.self _ _ y.auto.via copy.auto.self c.highest.ensures;
+    }

@@ -1,33 +1,29 @@
-use borrow.Author.Rules.{rules}
 use mathlib.Core.Path.{refl}
-use Prim.Native.Nat.{◌+◌, ◌*◌, ◌≤◌}
+use Prim.Native.Nat.{◌+◌, ◌*◌}
 use native.Mathlib.Omega.{arith}
 use lib.ListN.{length}
-use Rattle.counting.specs.Bounds.{most_entries}
 use Rattle.counting.proofs.Parts.{part_length}
-use Rattle.starts.proofs.FirstDivision.{row_ends, giving-none, giving-some, giving-more, giving-end}
+use Rattle.starts.proofs.FirstDivision.{row_ends, seen-some, seen-left, giving-none, giving-some, giving-more, giving-end}
 use Rattle.starts.proofs.begin.Goals as goal
 
 pub loop-s-init : goal.loop-s-init
-loop-s-init c = (search rules, refl, refl, giving-none _ c.copy_words.ensures c.requires.shares_value.0)
+loop-s-init c = (refl, giving-none _ c.copy_from_slice.ensures.after c.requires.shares_value.0)
 
-pub best_left-a-requires : goal.best_left-a-requires
-best_left-a-requires c =
-    let ends : let a = c.args in let w = length a.shares.now in
-    (c.loop-s.s * w + w ≤ length a.values.now) × (length a.values.now ≤ most_entries) = row_ends c.loop-s.s c.requires.problem (omega arith) in
-    let a = c.args in
-    let p = c.requires in
-    let l = c.loop-s in
-    let w = length a.shares.now in (
-      omega (arith, part_length (l.s * w) (l.s * w + w) a.values.now (ends).0, l.invariant.3.size),
-      giving-some p.problem.nobody l.invariant.3 (omega arith),
-    )
+pub best_left-requires : goal.best_left-requires
+best_left-requires c =
+    let w = length c.args.shares.now in
+    let s = c.loop-s.s in
+    let ends = row_ends s c.requires.problem (omega arith) in
+    omega (arith, part_length (s * w) (s * w + w) c.args.values.now ends.0, c.loop-s.invariant.1.size)
+
+pub unwrap-a-requires : goal.unwrap-a-requires
+unwrap-a-requires c = seen-some _ _ c.best_left.ensures (giving-some c.requires.problem.nobody c.loop-s.invariant.1 (omega arith))
 
 pub loop-s-preserved : goal.loop-s-preserved
 loop-s-preserved c =
-    let t = c.best_left-a in
-    let nobody = c.requires.problem.nobody in
-    (omega arith, refl, refl, giving-more nobody c.loop-s.invariant.3 t.result (omega arith) t.ensures.1)
+    let a = c.unwrap-a.result in
+    let left = seen-left _ a c.best_left.ensures c.unwrap-a.ensures in
+    (refl, giving-more c.requires.problem.nobody c.loop-s.invariant.1 a (omega arith) left)
 
 pub returns : goal.returns
-returns c = giving-end c.requires.problem.nobody c.loop-s.invariant.3 (omega arith)
+returns c = giving-end c.requires.problem.nobody c.loop-s.invariant.1 (omega arith)

@@ -1,24 +1,21 @@
-use borrow.Author.Rules.{rules}
-use mathlib.Core.Path.{refl}
-use Prim.Native.Nat.{◌+◌, ◌*◌, ◌≤◌}
+use mathlib.Core.Path.{ap}
+use Prim.Native.Nat.{◌+◌, ◌*◌}
 use native.Mathlib.Omega.{arith}
-use Rattle.counting.specs.Bounds.{most_value}
-use Rattle.counting.specs.Lists.{at, cell}
+use lib.ListN.{length}
+use Rattle.counting.specs.Lists.{at}
+use Rattle.pairs.specs.BestMoves.{value_of}
 use Rattle.chains.proofs.SearchLoops.{sum-start, sum-next}
 use Rattle.chains.proofs.steps.sum.Goals as goal
 
 pub loop-s-init : goal.loop-s-init
-loop-s-init c = (search rules, refl, sum-start _ c.args.division.now, omega arith)
+loop-s-init c = (sum-start _ c.args.division.now, omega arith)
 
 pub loop-s-preserved : goal.loop-s-preserved
 loop-s-preserved c =
-    let value-small : c.value-total.result ≤ most_value = let a = c.args in
-    let l = c.loop-s in
-    omega (arith, c.value-total.ensures, c.requires.0.small (l.s * a.w + at a.division.now l.s)) in
     let a = c.args in
-    let l = c.loop-s in (
-      omega arith,
-      refl,
-      sum-next (cell a.values.now a.w) a.division.now l.s _ _ (omega arith) l.invariant.2 c.value-total.ensures,
-      omega (arith, value-small),
+    let l = c.loop-s in
+    let w = length a.problem.now.shares.now in
+    let value = ap (λ x. at a.problem.now.values.now (l.s * w + x)) c.from.ensures in (
+      sum-next (value_of a.problem.now) a.division.now l.s _ _ (omega arith) l.invariant.0 value,
+      omega (arith, c.requires.0.small (l.s * w + c.from.result), l.invariant.1),
     )

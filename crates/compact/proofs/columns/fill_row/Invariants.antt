@@ -1,9 +1,6 @@
-use mathlib.Core.Path.{◌≡◌}
-use Prim.Native.Nat.{◌≤◌}
-use lib.ListN.{length}
 use Rattle.counting.specs.Lists.{at}
 use Rattle.counting.specs.Buffers.{Mapped}
 use Rattle.compact.proofs.columns.fill_row.Given as goal
 
 abbrev pub invariant-loop-j : goal.invariant-loop-j
-invariant-loop-j l = (l.j ≤ l.j-end) × (l.j-end ≡ length l.initial.row) × Mapped (λ i x. at l.values (at l.sites i)) l.initial.row l.row l.j
+invariant-loop-j l = Mapped (λ i x. at l.values (at l.sites i)) l.initial.row l.row l.j

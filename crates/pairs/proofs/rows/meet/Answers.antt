@@ -1,3 +1,4 @@
+use mathlib.Core.Path.{refl}
 use native.Mathlib.Omega.{arith}
 use lib.ListN.{length-set}
 use Rattle.pairs.proofs.Moves.{pair-more, meeting-more}
@@ -7,7 +8,8 @@ pub loop-b-preserved : goal.loop-b-preserved
 loop-b-preserved c =
     let p = c.requires in
     let l = c.loop-b in
-    let old = l.invariant.4.rest l.b (omega arith) (omega arith) in
-    let more = pair-more p.s_in_bounds.0 p.s_in_bounds.4 (p.valued.small _) (p.valued.small _) c.better-best.ensures old in
-    let next = meeting-more l.gains l.pairs (omega arith) (omega arith) l.invariant.4 more in
-    (omega arith, simp length-set l.invariant.1, simp length-set l.invariant.2, l.invariant.3, next)
+    let i = l.invariant in
+    let old = i.5.rest l.b (omega arith) (omega arith) in
+    let more = pair-more p.s_in_bounds.0 p.s_in_bounds.2 (p.fits.small _) (p.fits.small _) c.better-best.ensures old in
+    let next = meeting-more l.gains l.pairs (omega arith) (omega arith) i.5 more in
+    (omega arith, refl, simp length-set i.2, simp length-set i.3, i.4, next)
