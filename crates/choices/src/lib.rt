@@ -25,15 +25,21 @@ pub fn offer(site: usize, worth: u32, taken: bool) -> Option<Found>
     }
 }
 
+// What sites are compared by: any site comes before none.
+fn rank(site: Option<Found>) -> u64
+    ensures { result ≡ rank_of site }
+{
+    match site {
+        Some(found) => u64::from(found.worth) + 1,
+        None => 0,
+    }
+}
+
 // Whether a site is better than the best so far.
 pub fn beats(site: Option<Found>, best: Option<Found>) -> bool
     ensures { IsTrue result ↔ rank_of best < rank_of site }
 {
-    match (site, best) {
-        (None, _) => false,
-        (Some(_), None) => true,
-        (Some(site), Some(best)) => best.worth < site.worth,
-    }
+    rank(best) < rank(site)
 }
 
 // The better of the best so far and one site more, which must be better to win.
