@@ -56,7 +56,7 @@ pub fn worth(table: Table<'_>, division: &[u8], q: usize, a: usize) -> u32
         if tally.left == 0 {
             return tally.total;
         }
-        let s = *street as usize;
+        let s = usize::from(*street);
         let value = table.value(s, a);
         if value == 0 {
             return tally.total;

@@ -56,8 +56,8 @@ fn weigh_site(values: &[u32], a: usize, m: usize, keys: &mut [u32])
 {
     let width = m + 1;
     let base = m as u32 + 2;
-    for s in 0..keys.len() {
-        keys[s] = (MOST_VALUE - values[s * width + a]) * base + keys[s];
+    for (s, key) in keys.iter_mut().enumerate() {
+        *key += (MOST_VALUE - values[s * width + a]) * base;
     }
 }
 
