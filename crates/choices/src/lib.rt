@@ -49,7 +49,7 @@ pub fn better(best: Option<Found>, site: Option<Found>) -> Option<Found>
     if beats(site, best) { site } else { best }
 }
 
-// The number of the best site, 0 where there is none.
+// The number of the best site, 0 where there is none: the plans' definitions have it so.
 pub fn number(best: Option<Found>) -> usize
     ensures { result ≡ site_of best }
 {

@@ -37,6 +37,7 @@ fn plain_sum_with(bests: &[u16], row: &[u16]) -> u32
     requires { Beside bests.now row.now }
     ensures { result ≡ sum_of (length bests.now) (λ s. max (at bests.now s) (at row.now s)) }
 {
+    // kept: one index cuts both lists; chunks of both, zipped, say no more
     let mut raised: u32 = 0;
     let mut from = 0;
     while from < bests.len() {

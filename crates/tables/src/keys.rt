@@ -69,6 +69,7 @@ fn weigh_keys(values: &[u32], n: usize, m: usize, keys: &mut [u32])
     ensures { (a s : ℕ) → a ≤ m → s < n →
         cell keys.new n a s ≡ (most_value - cell values.now (m + 1) s a) * (m + 2) + cell keys.old n a s }
 {
+    // kept: by index, since of a slice that is lent in chunks to be written a proof knows the length alone afterwards
     for a in 0..m + 1 {
         let low = a * n;
         let high = low + n;
