@@ -16,6 +16,10 @@ returns c =
     let t = c.rounds.ensures in
     let low = at-most-list c.args.town.town.m c.args.sites.now c.requires.1 in
     record {
-      sites = (t.sites.0, sites-planned ok c.fill_values.ensures (weight_of c.of.result) c.of.ensures.same c.args.k c.args.sites.now low c.rounds.result t.sites.1);
+      sites = (
+        t.sites.0,
+        sites-planned ok c.fill_values.ensures (weight_of c.of.result) c.of.ensures.same c.args.k c.args.sites.now low
+            c.rounds.result t.sites.1,
+      );
       held = held-planned ok c.fill_values.ensures (weight_of c.of.result) c.of.ensures.same c.args.k c.args.sites.now low c.rounds.result t.sites.1 t.held;
     }

@@ -10,12 +10,17 @@ pub sum-requires : goal.sum-requires
 sum-requires c =
     let t = c.args.town.town in
     let ok = c.args.town.accepted in
-    let whole : length (take t.n c.args.state.now.bests) ≡ t.n = length-take-le t.n c.args.state.now.bests (omega (arith, ok.few-streets, c.requires.bests-size)) in
-    (bests-ready ok c.requires, omega (arith, ok.few-streets), record { size = ok.weights-fit ∙ sym whole; small = weight-bound t.weights.now ok.sound-weights })
+    let whole : length (take t.n c.args.state.now.bests) ≡ t.n =
+    length-take-le t.n c.args.state.now.bests (omega (arith, ok.few-streets, c.requires.bests-size)) in (
+      bests-ready ok c.requires,
+      omega (arith, ok.few-streets),
+      record { size = ok.weights-fit ∙ sym whole; small = weight-bound t.weights.now ok.sound-weights },
+    )
 
 pub returns : goal.returns
 returns c =
     let t = c.args.town.town in
     let ok = c.args.town.accepted in
-    let whole : length (take t.n c.args.state.now.bests) ≡ t.n = length-take-le t.n c.args.state.now.bests (omega (arith, ok.few-streets, c.requires.bests-size)) in
+    let whole : length (take t.n c.args.state.now.bests) ≡ t.n =
+    length-take-le t.n c.args.state.now.bests (omega (arith, ok.few-streets, c.requires.bests-size)) in
     total-found ok c.requires (rw whole at c.sum.ensures)

@@ -6,4 +6,5 @@ pub loop-s-preserved : goal.loop-s-preserved
 loop-s-preserved c =
     let h = c.hand-left in
     let some = c.if-left-eq0.false in
-    giving-more c.loop-s.invariant _ _ (omega arith) (omega (arith, some)) h.auto.division (rw c.from.ensures at h.ensures.given) (rw c.from.ensures at h.ensures.passed)
+    giving-more c.loop-s.invariant _ _ (omega arith) (omega (arith, some)) h.auto.division
+    (rw c.from.ensures at h.ensures.given) (rw c.from.ensures at h.ensures.passed)

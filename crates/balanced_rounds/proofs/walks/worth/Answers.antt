@@ -14,4 +14,5 @@ pub loop-street-preserved : goal.loop-street-preserved
 loop-street-preserved c =
     let l = c.loop-street in
     let some = c.if-tally-eq0.false in
-    adding-more l.invariant (omega arith) (rw (c.value-value.ensures, c.from-s.ensures) at c.step-tally.ensures) (omega (arith, some)) (c.args.table.street_table.small _)
+    adding-more l.invariant (omega arith) (rw (c.value-value.ensures, c.from-s.ensures) at c.step-tally.ensures)
+    (omega (arith, some)) (c.args.table.street_table.small _)

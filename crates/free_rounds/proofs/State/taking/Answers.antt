@@ -16,4 +16,8 @@ returns c =
     let site = c.args.site in
     let low : site < 256 = omega (arith, c.requires.site_le_m.0, t.site_table.few-sites) in
     let row = λ (s : ℕ) (l : s < t.n). ap (λ (L : List ℕ). at L s) c.row.ensures ∙ row-value t.site_table c.requires.site_le_m.0 s l in
-    record { sites = (refl, sites-more held room site); held = held_more held room site c.row.result.now low t.site_table.few-streets row c.raise.ensures; bounds = bounds-more held room site }
+    record {
+      sites = (refl, sites-more held room site);
+      held = held_more held room site c.row.result.now low t.site_table.few-streets row c.raise.ensures;
+      bounds = bounds-more held room site;
+    }

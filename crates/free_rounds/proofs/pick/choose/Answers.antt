@@ -20,8 +20,11 @@ sum-total-requires c =
 
 pub loop-i-init : goal.loop-i-init
 loop-i-init c =
-    let t = c.args.table in
-    (rw c.requires.scores.0 at c.sum-total.ensures, c.requires.bounded, scan-none (with_site (weight_of t.weights) t.values.now t.n c.args.bests.now) c.args.flags.now)
+    let t = c.args.table in (
+      rw c.requires.scores.0 at c.sum-total.ensures,
+      c.requires.bounded,
+      scan-none (with_site (weight_of t.weights) t.values.now t.n c.args.bests.now) c.args.flags.now,
+    )
 
 pub overflow_add-total : goal.overflow_add-total
 overflow_add-total c =
