@@ -35,7 +35,7 @@ use Rattle.balanced_plan.proofs.RoundShares.{rounds-plan, rounds-in}
 use Rattle.balanced_plan.proofs.Agree.{rounds-agree}
 use Rattle.balanced_plan.proofs.CountedKeys.{counted-falling}
 use Rattle.plans.specs.Plans.{street_key, balanced_rounds, balanced_sites}
-use Rattle.balanced_rounds.specs.Lines.{Orders, Lines, RoundTables}
+use Rattle.balanced_rounds.specs.Lines.{Orders, Lines, Falling}
 use Rattle.balanced_rounds.proofs.AlikeLines.{orders-alike}
 use Rattle.starts.specs.Given.{Shared}
 use Rattle.balanced_results.specs.declared.first.Chooser.{Chooser}
@@ -91,15 +91,15 @@ module _ {t : Town} (ok : Accepted t) {values : List ℕ} (filled : Tabled (valu
     round-orders : Orders (round_key (value_in values t.m) t.m t.rows) t.n t.m orders
     round-orders = orders-alike _ (round_key (value_in values t.m) t.m t.rows) t.n t.m orders rows-alike sorted
 
-    -- and the rounds may read them
-    pub rounds-ready : RoundTables t.n t.m values orders
-    rounds-ready = (
-      street-ready ok filled,
-      lines-ordered t.n t.m orders size _ round-orders,
-      lines-fall (value_in values t.m) _ t.n t.m orders round-orders
-          (counted-falling (value_in values t.m) (row_place t.m t.rows) most_value t.n t.m (λ a s l u. (street-ready ok filled).small _)
-          (λ a s l u. place-few t.m t.rows s a)),
-    )
+    -- they are lines of streets, along which the values never rise
+    pub lines-ready : Lines t.n t.m orders
+    lines-ready = lines-ordered t.n t.m orders size _ round-orders
+
+    pub falling-ready : Falling (value_in values t.m) t.n t.m orders
+    falling-ready =
+        lines-fall (value_in values t.m) _ t.n t.m orders round-orders
+        (counted-falling (value_in values t.m) (row_place t.m t.rows) most_value t.n t.m (λ a s l u. (street-ready ok filled).small _)
+        (λ a s l u. place-few t.m t.rows s a))
 
     -- what they play by the table is what they play by the town's values
     pub rounds-surveyed : (k : ℕ) {state : plan.State}

@@ -9,6 +9,7 @@ ghost use Rattle.balanced_results.specs.Begun.{Begun, Listed, sites_of};
 
 use crate::valued::Valued;
 use balanced_rounds::State;
+use balanced_rounds::table::Table;
 
 // Who chooses the sites of a balanced division: the rounds, or the caller, who lists them.
 #[derive(Clone, Copy)]
@@ -31,7 +32,13 @@ fn play(valued: Valued<'_>, k: usize) -> State
     let orders = &mut orders[..size];
     tables::keys::fill_for_rounds(valued.town, valued.values, keys);
     orders::fill_orders(keys, town.n, town.m, orders);
-    balanced_rounds::rounds(valued.values, orders, town.n, town.m, k)
+    let table = Table {
+        n: town.n,
+        m: town.m,
+        values: valued.values,
+        orders,
+    };
+    balanced_rounds::rounds(table, k)
 }
 
 // The sites and the division of the rounds.

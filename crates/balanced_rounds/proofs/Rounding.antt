@@ -4,36 +4,32 @@
 use mathlib.Core.Path.{◌≡◌, refl, sym, ap, subst, ◌∙◌}
 use mathlib.Core.Bool.{Bool, true, false, not, ◌&&◌, and-eq-true_iff}
 use mathlib.Core.List.{List, [], ◌∷◌, ◌++◌}
-use mathlib.Core.Logic.{by_cases}
-use Prim.Native.Nat.{ℕ, zero, suc, ◌+◌, ◌*◌, ◌-◌, ◌≤◌, ◌<◌}
+use Prim.Native.Nat.{ℕ, zero, suc, ◌+◌, ◌*◌, ◌≤◌, ◌<◌}
 use native.Mathlib.Numerals.{add-one}
-use native.Mathlib.Decide.{dec_lt}
 use native.Mathlib.Omega.{arith}
 use lib.Dec.{ltb}
 use lib.ListN.{length, get_or, take, drop, set, replicate, length-set, length-take, length-append, length-drop, length-replicate}
 use lib.Seq.{take-suc-set, get_or-take, get_or-drop, length-take-le}
 use borrow.Author.Tests.{not-true}
-use Rattle.counting.specs.Bounds.{most_streets, most_sites, most_entries, most_value, most_worth}
-use Rattle.counting.specs.Words.{◌unless◌}
-use Rattle.counting.specs.Lists.{at, sum, only}
+use Rattle.counting.specs.Bounds.{most_streets, most_sites}
+use Rattle.counting.specs.Lists.{at, sum}
 use Rattle.counting.specs.Greatest.{greatest, unchosen}
 use Rattle.counting.proofs.Greatest.{greatest-same}
 use Rattle.counting.proofs.Flagging.{flags-none, flags-more}
-use Rattle.counting.proofs.Refusals.{unless-yes, unless-none}
-use Rattle.counting.proofs.Sums.{at-past}
+use Rattle.counting.proofs.Refusals.{unless-yes}
 use Rattle.counting.proofs.Tables.{row_within}
 use Rattle.counting.proofs.Parts.{back_is}
 use Rattle.counting.proofs.Equations.{along}
 use Rattle.tables.specs.Tables.{value_in}
-use Rattle.tables.proofs.Filling.{table-small}
 use Rattle.survey.specs.Rows.{row_at}
-use Rattle.survey.proofs.RowLoops.{row-part}
 use Rattle.choices.specs.Scan.{unflagged}
 use Rattle.balanced_plan.specs.Rounds.{free, lot, worth, give, choice, taken, rounds}
 use Rattle.balanced_plan.specs.Rounds as plan
 use Rattle.balanced_plan.proofs.Ordered.{ordered-only}
 use Rattle.balanced_rounds.specs.declared.State.{State}
-use Rattle.balanced_rounds.specs.Lines.{picked, line_worth, Orders, Line, Lines, Falls, Falling, state_of, empty_state, WellFormed}
+use Rattle.balanced_rounds.specs.declared.table.Table.{Table}
+use Rattle.balanced_rounds.specs.Worth.{line_worth}
+use Rattle.balanced_rounds.specs.Lines.{picked, Orders, Line, Lines, state_of, empty_state, WellFormed}
 
 -- ---- lines
 module _ {n m : ℕ} {orders : List ℕ} (h : Lines n m orders) {a : ℕ} (l : a ≤ m) where
@@ -41,24 +37,16 @@ module _ {n m : ℕ} {orders : List ℕ} (h : Lines n m orders) {a : ℕ} (l : a
   line-ends : a * n + n ≤ length orders
   line-ends = omega (arith, row_within (m + 1) n a (omega arith), h.size)
 
-  -- which is small
-  pub line-fits : n ≤ most_streets → m ≤ most_sites → (a * n + n ≤ length orders) × (length orders ≤ most_entries)
-  line-fits few few-sites = (line-ends, omega (arith, h.size, table-small n m few few-sites))
-
   -- it is a line of the streets
-  pub line_of : {division : List ℕ} → length division ≡ n → n ≤ most_streets → Line (take (a * n + n - a * n) (drop (a * n) orders)) division
+  pub line_of : {division : List ℕ} → length division ≡ n → n ≤ most_streets → Line (row_at n orders a) division
   line_of e few = record {
     streets = λ i k.
-        let short : i < n = omega (arith, length-take (a * n + n - a * n) (drop (a * n) orders)) in
-        let there : at (take (a * n + n - a * n) (drop (a * n) orders)) i ≡ at orders (a * n + i) =
-        get_or-take (a * n + n - a * n) (drop (a * n) orders) i 0 (omega arith) ∙ get_or-drop (a * n) orders i 0 in
+        let long : length (row_at n orders a) ≤ n = omega (arith, length-take n (drop (a * n) orders)) in
+        let there : at (row_at n orders a) i ≡ at orders (a * n + i) =
+        get_or-take n (drop (a * n) orders) i 0 (omega arith) ∙ get_or-drop (a * n) orders i 0 in
         omega (arith, there, h.streets (a * n + i) (omega (arith, line-ends)));
     few = omega arith;
   }
-
-  -- and the values never rise along it
-  pub line-falls : (v : ℕ → ℕ → ℕ) → Falling v n m orders → Falls (λ s. v s a) (take (a * n + n - a * n) (drop (a * n) orders))
-  line-falls v falls = rw row-part (falls a l)
 
 -- what is picked from a site's line is the lot that the definition gives it
 lot-line : (key : ℕ → ℕ → ℕ) (n m : ℕ) (orders : List ℕ) → Orders key n m orders → (q : ℕ) (division : List ℕ) (a : ℕ) → length division ≡ n
@@ -66,49 +54,22 @@ lot-line : (key : ℕ → ℕ → ℕ) (n m : ℕ) (orders : List ℕ) → Order
 lot-line key n m orders o q division a e l = rw (e, ordered-only (key a) (free division) n, o a l) refl
 
 -- ---- worths
-module _ (f : ℕ → ℕ) (line division : List ℕ) (q : ℕ) where
-  -- a sum of values is at most most_value for each
-  sum-small : (L : List ℕ) → ((s : ℕ) → f s ≤ most_value) → sum f L ≤ length L * most_value
-  sum-small [] h = omega arith
-  sum-small (s ∷ L) h = omega (arith, h s, sum-small L h)
-
-  -- the worth of a share of at most 400 streets is small
-  worth-small : ((s : ℕ) → f s ≤ most_value) → q ≤ most_streets → sum f (picked line q division) ≤ most_worth
-  worth-small h few = omega (arith, sum-small (picked line q division) h, length-take q (only (free division) line))
-
--- what is taken only where a test fails is no more than it is
-unless-small : (x bound : ℕ) (t : Bool) → x ≤ bound → (x unless t) ≤ bound
-unless-small x bound true l = omega (arith, unless-none x true refl)
-unless-small x bound false l = omega (arith, unless-yes x false refl)
-
 -- the worths of all sites, each by its line
-pub record Worths (values : List ℕ) (m : ℕ) (orders division : List ℕ) (flags : List Bool) (q : ℕ) (worths : List ℕ) : Type 0 where
-  pub size : length worths ≡ m + 1
-  pub each : (a : ℕ) → a ≤ m → at worths a ≡ line_worth values m orders division flags q a
+pub record Worths (t : Table) (division : List ℕ) (flags : List Bool) (q : ℕ) (worths : List ℕ) : Type 0 where
+  pub size : length worths ≡ t.m + 1
+  pub each : (a : ℕ) → a ≤ t.m → at worths a ≡ line_worth t division flags q a
 
-module _ {values : List ℕ} {m : ℕ} {orders division : List ℕ} {flags : List Bool} {q : ℕ} {worths : List ℕ}
-    (h : Worths values m orders division flags q worths) where
-  -- they are small
-  pub worths-small : ((i : ℕ) → at values i ≤ most_value) → q ≤ most_streets → (a : ℕ) → at worths a ≤ most_worth
-  worths-small low few a =
-      by_cases (dec_lt a (m + 1)) (λ l. omega (arith, h.each a (omega arith), small)) (λ o. omega (arith, at-past worths a (omega (arith, h.size))))
-    where
-      small : line_worth values m orders division flags q a ≤ most_worth
-      small =
-          unless-small _ most_worth (get_or flags a false)
-          (worth-small (λ s. value_in values m s a) (row_at (length division) orders a) division q (λ s. low (s * (m + 1) + a)) few)
-
-  -- ---- the choice
-  -- the flags' choice by the worths of all lines is the choice by the definition's worths
-  pub chosen-worth : (key : ℕ → ℕ → ℕ) → Orders key (length division) m orders
-      → greatest (unflagged flags) (at worths) m ≡ greatest (unflagged flags) (worth (value_in values m) key q division) m
-  chosen-worth key o =
-      greatest-same (unflagged flags) (unflagged flags) (at worths) (worth (value_in values m) key q division) m (λ a l. refl)
-      (λ a l y.
-      let open-site : get_or flags a false ≡ false = not-true (get_or flags a false) ((and-eq-true_iff (ltb 0 a) (not (get_or flags a false))).0 y).1 in
-      h.each a l
-      ∙ sym (unless-yes (sum (λ s. value_in values m s a) (picked (row_at (length division) orders a) q division)) (get_or flags a false) open-site)
-      ∙ ap (sum (λ s. value_in values m s a)) (sym (lot-line key (length division) m orders o q division a refl l)))
+-- the flags' choice by the worths of all lines is the choice by the definition's worths
+pub chosen-worth : (t : Table) {division : List ℕ} {flags : List Bool} {q : ℕ} {worths : List ℕ} → Worths t division flags q worths
+    → length division ≡ t.n → (key : ℕ → ℕ → ℕ) → Orders key t.n t.m t.orders.now
+    → greatest (unflagged flags) (at worths) t.m ≡ greatest (unflagged flags) (worth (value_in t.values.now t.m) key q division) t.m
+chosen-worth t {division} {flags} {q} {worths} h whole key o =
+    greatest-same (unflagged flags) (unflagged flags) (at worths) (worth (value_in t.values.now t.m) key q division) t.m (λ a l. refl)
+    (λ a l y.
+    let open-site : get_or flags a false ≡ false = not-true (get_or flags a false) ((and-eq-true_iff (ltb 0 a) (not (get_or flags a false))).0 y).1 in
+    h.each a l
+    ∙ sym (unless-yes (sum (λ s. value_in t.values.now t.m s a) (picked (row_at t.n t.orders.now a) q division)) (get_or flags a false) open-site)
+    ∙ ap (sum (λ s. value_in t.values.now t.m s a)) (sym (lot-line key t.n t.m t.orders.now o q division a whole l)))
 
 -- and the choice by the flags is that by the chosen sites
 pub choice-flagged : (v key : ℕ → ℕ → ℕ) (n m q : ℕ) {state : State} → WellFormed state → m ≤ most_sites
@@ -159,11 +120,11 @@ module _ {n m : ℕ} {state : State} {site : ℕ} {new : List ℕ} (h : Given n 
 
   -- and stands for the definition's state
   pub taken_more : (q : ℕ) (key : ℕ → ℕ → ℕ) (orders : List ℕ) → Orders key n m orders
-      → new ≡ give site (picked (take (site * n + n - site * n) (drop (site * n) orders)) q (take n state.division)) (take n state.division)
+      → new ≡ give site (picked (row_at n orders site) q (take n state.division)) (take n state.division)
       → state_of n (state_with state site (new ++ drop n state.division)) ≡ taken key q (state_of n state) site
   taken_more q key orders o e =
-      let line : lot key q (take n state.division) site ≡ picked (take (site * n + n - site * n) (drop (site * n) orders)) q (take n state.division) =
-      rw (row-part n orders site) (lot-line key n m orders o q (take n state.division) site whole h.low) in
+      let line : lot key q (take n state.division) site ≡ picked (row_at n orders site) q (take n state.division) =
+      lot-line key n m orders o q (take n state.division) site whole h.low in
       let given : new ≡ give site (lot key q (take n state.division) site) (take n state.division) = rw line e in
       rw (sites-more, back_is n new (drop n state.division) (h.size ∙ whole), given) refl
 

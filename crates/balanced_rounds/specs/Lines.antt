@@ -1,24 +1,17 @@
 -- What the engine of the balanced rounds holds and walks: for each site a line of all streets in the site's order, and the state that
 -- passes from round to round.
 -- Assumes nothing.
-use Rattle.std.specs.Prelude.{◌≡◌, Bool, true, false, List, ℕ, ◌+◌, ◌*◌, ◌≤◌, ◌<◌, length, get_or, take, replicate}
+use Rattle.std.specs.Prelude.{◌≡◌, true, false, List, ℕ, ◌+◌, ◌*◌, ◌≤◌, ◌<◌, length, take, replicate}
 use Rattle.counting.specs.Bounds.{most_streets, most_sites}
-use Rattle.counting.specs.Words.{◌unless◌}
-use Rattle.counting.specs.Lists.{at, sum, only}
+use Rattle.counting.specs.Lists.{at, only}
 use Rattle.counting.specs.Flags.{Flags}
 use Rattle.survey.specs.Rows.{row_at}
-use Rattle.tables.specs.Tables.{StreetTable, value_in}
 use Rattle.balanced_plan.specs.Rounds as plan
 use Rattle.balanced_rounds.specs.declared.State.{State}
 
 -- the first q streets of a line that are free
 abbrev pub picked : List ℕ → ℕ → List ℕ → List ℕ
 picked line q division = take q (only (plan.free division) line)
-
--- the worth of a site by its line: the summed value of the first q streets of it that are free, 0 where the site is chosen
-abbrev pub line_worth : List ℕ → ℕ → List ℕ → List ℕ → List Bool → ℕ → ℕ → ℕ
-line_worth values m orders division flags q a =
-    sum (λ s. value_in values m s a) (picked (row_at (length division) orders a) q division) unless get_or flags a false
 
 -- the lines are the sites' orders by a key
 abbrev pub Orders : (ℕ → ℕ → ℕ) → ℕ → ℕ → List ℕ → Type 0
@@ -41,10 +34,6 @@ Falls v line = (i j : ℕ) → i ≤ j → j < length line → v (at line j) ≤
 -- nor along the line of any site
 abbrev pub Falling : (ℕ → ℕ → ℕ) → ℕ → ℕ → List ℕ → Type 0
 Falling v n m orders = (a : ℕ) → a ≤ m → Falls (λ s. v s a) (row_at n orders a)
-
--- the tables that the rounds read: the values, and for each site a line of the streets along which its values never rise
-abbrev pub RoundTables : ℕ → ℕ → List ℕ → List ℕ → Type 0
-RoundTables n m values orders = StreetTable n m values × Lines n m orders × Falling (value_in values m) n m orders
 
 -- one street more of a walk, by its value and its site: a free one is counted, and another is passed
 pub record Stepped (value site left total left' total' : ℕ) : Type 0 where

@@ -9,11 +9,16 @@ ghost use Rattle.tables.specs.Tables.{value_in};
 ghost use Rattle.choices.specs.Scan.{unflagged};
 ghost use Rattle.shares.specs.Rounds.{round_share};
 ghost use Rattle.balanced_plan.specs.Rounds.{worth, choice, taken, rounds};
-ghost use Rattle.balanced_rounds.specs.Lines.{Orders, Lines, RoundTables, WellFormed, line_worth, state_of, empty_state};
+ghost use Rattle.balanced_rounds.specs.Lines.{Orders, WellFormed, state_of, empty_state};
+ghost use Rattle.balanced_rounds.specs.Worth.{line_worth};
 
+use table::Table;
+
+pub mod table;
 mod walks;
 
 // The sites chosen so far in order of choice, a flag for each of them, and each street's site, 0 while it is free.
+// kept: an array with a count beside it, which `sites` reads, since the library allocates nothing
 #[derive(Clone, Copy)]
 pub struct State {
     pub chosen: [u8; counting::SITES],
@@ -23,67 +28,39 @@ pub struct State {
 }
 
 // The worth of the site a, 0 where it is chosen.
-fn worth_of(
-    values: &[u32],
-    orders: &[u16],
-    division: &[u8],
-    flags: &[bool],
-    m: usize,
-    q: usize,
-    a: usize,
-) -> u32
-    requires round_tables { RoundTables (length division.now) m values.now orders.now }
-    requires flags_len { (length flags.now ≡ 256) × (a ≤ m) × (q ≤ most_streets) }
-    ensures { result ≡ line_worth values.now m orders.now division.now flags.now q a }
+fn worth_of(table: Table<'_>, division: &[u8], flags: &[bool], q: usize, a: usize) -> u32
+    requires division_len { (length division.now ≡ table.n) × (q ≤ most_streets) }
+    requires flags_len { (length flags.now ≡ 256) × (a ≤ table.m) }
+    ensures { result ≡ line_worth table.entry division.now flags.now q a }
 {
     if flags[a] {
         return 0;
     }
-    let n = division.len();
-    let from = a * n;
-    let to = from + n;
-    walks::worth(values, m, &orders[from..to], division, q, a)
+    walks::worth(table, division, q, a)
 }
 
 // The worths of all sites.
-fn fill_worths(
-    values: &[u32],
-    orders: &[u16],
-    division: &[u8],
-    flags: &[bool],
-    m: usize,
-    q: usize,
-    worths: &mut [u32],
-)
-    requires round_tables { RoundTables (length division.now) m values.now orders.now }
-    requires flags_len { (length flags.now ≡ 256) × (q ≤ most_streets) × (length worths.old ≡ m + 1) }
-    ensures { (a : ℕ) → a ≤ m
-        → at worths.new a ≡ line_worth values.now m orders.now division.now flags.now q a }
+fn fill_worths(table: Table<'_>, division: &[u8], flags: &[bool], q: usize, worths: &mut [u32])
+    requires division_len { (length division.now ≡ table.n) × (q ≤ most_streets) }
+    requires flags_len { (length flags.now ≡ 256) × (length worths.old ≡ table.m + 1) }
+    ensures { (a : ℕ) → a ≤ table.entry.m → at worths.new a ≡ line_worth table.entry division.now flags.now q a }
 {
-    for a in 0..worths.len() {
-        worths[a] = worth_of(values, orders, division, flags, m, q, a);
+    for (a, worth) in worths.iter_mut().enumerate() {
+        *worth = worth_of(table, division, flags, q, a);
     }
 }
 
 // The choice of a round: the unchosen site of greatest worth, the lowest number on a tie.
-fn choose(
-    values: &[u32],
-    orders: &[u16],
-    division: &[u8],
-    flags: &[bool],
-    m: usize,
-    q: usize,
-) -> usize
-    requires round_tables { RoundTables (length division.now) m values.now orders.now }
-    requires flags_len { (length flags.now ≡ 256) × (q ≤ most_streets) }
-    ensures site { result ≤ m }
-    ensures choice { (key : ℕ → ℕ → ℕ) → Orders key (length division.now) m orders.now
-        → result ≡ greatest (unflagged flags.now) (worth (value_in values.now m) key q division.now) m }
+fn choose(table: Table<'_>, division: &[u8], flags: &[bool], q: usize) -> usize
+    requires { (length division.now ≡ table.n) × (q ≤ most_streets) × (length flags.now ≡ 256) }
+    ensures site { result ≤ table.entry.m }
+    ensures choice { (key : ℕ → ℕ → ℕ) → Orders key table.entry.n table.entry.m table.entry.orders.now
+        → result ≡ greatest (unflagged flags.now) (worth (value_in table.entry.values.now table.entry.m) key q division.now) table.entry.m }
 {
-    let width = m + 1;
     let mut worths = [0u32; counting::WIDTH];
-    fill_worths(values, orders, division, flags, m, q, &mut worths[..width]);
-    choices::best_site(&worths[..width], flags, m)
+    let worths = &mut worths[..table.m + 1];
+    fill_worths(table, division, flags, q, worths);
+    choices::best_site(worths, flags, table.m)
 }
 
 impl State {
@@ -108,19 +85,18 @@ impl State {
     }
 
     // The state once a site has been chosen and has taken its streets.
-    fn taking(mut self, orders: &[u16], n: usize, m: usize, q: usize, site: u8) -> Self
-        requires lines { Lines n m orders.now × (n ≤ most_streets) }
-        requires well_formed { WellFormed self × (self.count < most_sites) × (site ≤ m) × (m ≤ most_sites) }
+    fn taking(mut self, table: Table<'_>, q: usize, site: u8) -> Self
+        requires { WellFormed self × (self.count < most_sites) × (site ≤ table.m) }
         ensures held { WellFormed result × (result.count ≡ self.count + 1) }
-        ensures state { (key : ℕ → ℕ → ℕ) → Orders key n m orders.now → state_of n result ≡ taken key q (state_of n self) site }
+        ensures state { (key : ℕ → ℕ → ℕ) → Orders key table.entry.n table.entry.m table.entry.orders.now
+            → state_of table.entry.n result ≡ taken key q (state_of table.entry.n self) site }
     {
         let at = self.count;
         let flag = site as usize;
-        let from = flag * n;
-        let to = from + n;
+        let n = table.n;
         let before = self.division;
         let mut division = self.division;
-        walks::give_lot(&orders[from..to], &before[..n], &mut division[..n], q, site);
+        walks::give_lot(table.line(flag), &before[..n], &mut division[..n], q, site);
         self.chosen[at] = site;
         self.count = at + 1;
         self.flags[flag] = true;
@@ -129,32 +105,32 @@ impl State {
     }
 
     // One round: the site of greatest worth is chosen and takes its streets.
-    pub fn round(mut self, values: &[u32], orders: &[u16], n: usize, m: usize, q: usize) -> Self
-        requires round_tables { RoundTables n m values.now orders.now }
-        requires well_formed { WellFormed self × (self.count < most_sites) × (q ≤ most_streets) }
+    pub fn round(mut self, table: Table<'_>, q: usize) -> Self
+        requires { WellFormed self × (self.count < most_sites) × (q ≤ most_streets) }
         ensures held { WellFormed result × (result.count ≡ self.count + 1) }
-        ensures state { (key : ℕ → ℕ → ℕ) → Orders key n m orders.now
-            → state_of n result ≡ taken key q (state_of n self) (choice (value_in values.now m) key m q (state_of n self)) }
+        ensures state { (key : ℕ → ℕ → ℕ) → Orders key table.entry.n table.entry.m table.entry.orders.now
+            → state_of table.entry.n result ≡ taken key q (state_of table.entry.n self)
+            (choice (value_in table.entry.values.now table.entry.m) key table.entry.m q (state_of table.entry.n self)) }
     {
         let division = self.division;
         let flags = self.flags;
-        let site = choose(values, orders, &division[..n], &flags, m, q);
-        self = self.taking(orders, n, m, q, site as u8);
+        let site = choose(table, &division[..table.n], &flags, q);
+        self = self.taking(table, q, site as u8);
         self
     }
 }
 
 // The state after k rounds, each with its own share.
-pub fn rounds(values: &[u32], orders: &[u16], n: usize, m: usize, k: usize) -> State
-    requires round_tables { RoundTables n m values.now orders.now }
-    requires k_nonzero { (0 < k) × (k ≤ m) }
+pub fn rounds(table: Table<'_>, k: usize) -> State
+    requires { (0 < k) × (k ≤ table.m) }
     ensures held { WellFormed result × (result.count ≡ k) }
-    ensures state { (key : ℕ → ℕ → ℕ) → Orders key n m orders.now
-        → state_of n result ≡ rounds (value_in values.now m) key n m (round_share n k) k }
+    ensures state { (key : ℕ → ℕ → ℕ) → Orders key table.entry.n table.entry.m table.entry.orders.now
+        → state_of table.entry.n result
+        ≡ rounds (value_in table.entry.values.now table.entry.m) key table.entry.n table.entry.m (round_share table.entry.n k) k }
 {
     let mut state = State::empty();
     for i in 0..k {
-        state = state.round(values, orders, n, m, shares::of_round(n, k, i));
+        state = state.round(table, shares::of_round(table.n, k, i));
     }
     state
 }

@@ -2,9 +2,12 @@
 ghost use Rattle.std.specs.Prelude.{◌≡◌, ◌∷◌, [], ◌+◌, ◌*◌, ◌≤◌, ◌<◌, length};
 ghost use Rattle.counting.specs.Bounds.{most_streets, most_value, most_worth};
 ghost use Rattle.counting.specs.Lists.{at, sum};
-ghost use Rattle.tables.specs.Tables.{StreetTable, value_in};
+ghost use Rattle.survey.specs.Rows.{row_at};
+ghost use Rattle.tables.specs.Tables.{value_in};
 ghost use Rattle.balanced_plan.specs.Rounds.{give};
-ghost use Rattle.balanced_rounds.specs.Lines.{Line, Falls, Stepped, picked};
+ghost use Rattle.balanced_rounds.specs.Lines.{Line, Stepped, picked};
+
+use crate::table::Table;
 
 // How many streets are still to be found, and the sum of those found so far.
 #[derive(Drop)]
@@ -17,7 +20,7 @@ struct Tally {
 fn open(site: u8) -> u32
     ensures { (result ≤ 1) × (site ≡ 0 → result ≡ 1) × ((site ≡ 0 → ⊥) → result ≡ 0) }
 {
-    (256 - site as u32) / 256
+    (256 - u32::from(site)) / 256
 }
 
 // A value that counts once or not at all.
@@ -42,19 +45,19 @@ fn step(tally: Tally, value: u32, site: u8) -> Tally
 
 // The worth of a site: the summed value of the first q streets of its line that are free. Values never rise along a line, so the walk ends
 // at the first street of value 0, free or not.
-pub fn worth(values: &[u32], m: usize, line: &[u16], division: &[u8], q: usize, a: usize) -> u32
-    requires street_table { StreetTable (length division.now) m values.now × Line line.now division.now × Falls (λ s. value_in values.now m s a) line.now }
-    requires a_le_m { (a ≤ m) × (q ≤ most_streets) }
-    ensures { result ≡ sum (λ s. value_in values.now m s a) (picked line.now q division.now) }
+pub fn worth(table: Table<'_>, division: &[u8], q: usize, a: usize) -> u32
+    requires { (length division.now ≡ table.n) × (a ≤ table.m) × (q ≤ most_streets) }
+    ensures { result ≡ sum (λ s. value_in table.entry.values.now table.entry.m s a)
+        (picked (row_at table.entry.n table.entry.orders.now a) q division.now) }
 {
-    let w = m + 1;
+    let line = table.line(a);
     let mut tally = Tally { left: q, total: 0 };
-    for j in 0..line.len() {
+    for street in line {
         if tally.left == 0 {
             return tally.total;
         }
-        let s = line[j] as usize;
-        let value = values[s * w + a];
+        let s = usize::from(*street);
+        let value = table.value(s, a);
         if value == 0 {
             return tally.total;
         }
@@ -82,11 +85,10 @@ pub fn give_lot(line: &[u16], before: &[u8], division: &mut [u8], q: usize, a: u
     ensures { division.new ≡ give a (picked line.now q before.now) division.old }
 {
     let mut left = q;
-    for j in 0..line.len() {
+    for s in line {
         if left == 0 {
             return;
         }
-        let s = line[j] as usize;
-        left = hand(before, division, s, left, a);
+        left = hand(before, division, usize::from(*s), left, a);
     }
 }

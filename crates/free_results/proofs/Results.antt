@@ -1,7 +1,7 @@
 -- Laws of the results: what the engine's state holds, said as totals, divisions and sites of the survey.
 -- Assumes nothing.
 use mathlib.Core.Path.{◌≡◌, ap, ◌∙◌}
-use mathlib.Core.Bool.{Bool, true, false}
+use mathlib.Core.Bool.{Bool, false}
 use mathlib.Core.List.{List}
 use Prim.Native.Nat.{ℕ, ◌*◌, ◌≤◌, ◌<◌}
 use native.Mathlib.Omega.{arith}
@@ -13,25 +13,19 @@ use Rattle.counting.specs.Buffers.{list_of}
 use Rattle.counting.proofs.Refusals.{first-same}
 use Rattle.counting.proofs.Sums.{at-past, list_of-same, has-index}
 use Rattle.survey.specs.Town.{Town}
-use Rattle.survey.specs.Rows.{row_of, list_of_street, Even, score}
+use Rattle.survey.specs.Rows.{row_of, list_of_street, score}
 use Rattle.survey.specs.Accepted.{Accepted}
-use Rattle.survey.proofs.LeastWeights.{weight-bound}
 use Rattle.survey.proofs.Places.{ranked-bound, scored-bound}
 use Rattle.free_plan.specs.Greedy.{goes_to, chosen_at}
 use Rattle.free_plan.proofs.Valued.{AtMost}
 use Rattle.free_rounds.specs.declared.State.{State}
-use Rattle.free_rounds.specs.Held.{Held, Scores, Weighed, sites_of}
+use Rattle.free_rounds.specs.Held.{Held, Scores, sites_of}
 use Rattle.plans.specs.Plans.{list_total, free_division}
 use Rattle.free_rounds.proofs.Rounded.{bests-small, total-is}
 
 -- sites that are each at most m
 pub at-most-list : (m : ℕ) (sites : List ℕ) → ((i : ℕ) → at sites i ≤ m) → AtMost m sites
 at-most-list m sites h a i = let (j, l, e) = has-index a sites i in rw (← e) (h j)
-
--- the weights of an accepted survey are what the engine asks for
-pub weights-ready : {t : Town} → Accepted t → (even : Bool) → (even ≡ true → Even t.weights) → Weighed t.n t.weights even
-weights-ready {t} ok even equal =
-    record { size = ok.weights-fit; small = weight-bound t.weights ok.sound-weights; equal = equal }
 
 module _ {t : Town} (ok : Accepted t) {state : State} (held : Held (score t) t.n state) where
   -- the streets' bests are scores

@@ -9,9 +9,10 @@ ghost use Rattle.free_plan.specs.Greedy.{greedy};
 ghost use Rattle.plans.specs.Plans.{list_total, free_division, free_sites};
 ghost use Rattle.free_rounds.specs.Held.{Held, sites_of};
 
+use free_rounds::table::Table;
+use free_rounds::weights::Weighing;
 use free_rounds::{State, sums};
 use survey::accepted::AcceptedTown;
-use survey::weights;
 
 mod serve;
 
@@ -25,9 +26,13 @@ fn planned(town: AcceptedTown<'_>, sites: &[u8], k: usize) -> State
     let mut table = [0u16; counting::ENTRIES];
     let values = &mut table[..(town.town.m + 1) * town.town.n];
     tables::by_site::fill_values(town, values);
-    let town = town.town;
-    let even = weights::even(town.weights);
-    free_rounds::rounds(values, town.weights, even, town.n, town.m, sites, k)
+    let table = Table {
+        n: town.town.n,
+        m: town.town.m,
+        values,
+        weights: Weighing::of(town),
+    };
+    free_rounds::rounds(table, sites, k)
 }
 
 // The total of a state's sites: each street's best score, by its weight.
@@ -36,7 +41,7 @@ fn total_of(town: AcceptedTown<'_>, state: &State) -> u32
     ensures { result ≡ list_total (lent town.entry.town) (sites_of state.now) }
 {
     let town = town.town;
-    sums::sum(&state.bests[..town.n], town.weights, false)
+    sums::sum(&state.bests[..town.n], Weighing::Own(town.weights))
 }
 
 // The total of a list of sites.

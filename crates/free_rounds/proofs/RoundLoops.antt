@@ -1,7 +1,6 @@
 -- Laws of the engine's loops, one turn each, over plain lists and numbers.
 -- Assumes nothing.
 use mathlib.Core.Path.{◌≡◌, sym, ap, ◌∙◌}
-use mathlib.Core.Bool.{Bool, true}
 use mathlib.Core.Logic.{◌≢◌, by_cases}
 use mathlib.Core.List.{List}
 use Prim.Native.Nat.{ℕ, zero, suc, ◌+◌, ◌-◌, ◌*◌, ◌≤◌, ◌<◌, min, max}
@@ -16,10 +15,13 @@ use Rattle.counting.specs.Lists.{at}
 use Rattle.counting.proofs.Sums.{at-past, sum_of-same, sum_of-le, sum_of-even, sum_of-next}
 use Rattle.counting.proofs.Tables.{row_within}
 use Rattle.counting.proofs.Parts.{part, part_length, part_at}
+use Rattle.std.proofs.Common.{Option}
+use Rattle.survey.specs.Rows.{row_at}
+use Rattle.survey.proofs.RowLoops.{row-part}
 use Rattle.tables.specs.Tables.{site_value, SiteTable}
 use Rattle.tables.proofs.Filling.{table-small}
 use Rattle.choices.specs.declared.Found.{Found}
-use Rattle.free_rounds.specs.Held.{Scores, Weights, Weighed, Beside, Bounded, with_none, with_site}
+use Rattle.free_rounds.specs.Held.{Scores, Beside, Bounded, with_none, with_site}
 
 -- ---- the bounds of the sites' rises
 module _ {worth : ℕ → ℕ} {so : ℕ} {bounds : List ℕ} (h : Bounded worth so bounds) where
@@ -68,12 +70,9 @@ sum-times : (n w : ℕ) (f : ℕ → ℕ) → w * sum_of n f ≡ sum_of n (λ s.
 sum-times zero w f = mul-zero w
 sum-times (suc n) w f = mul-add w (sum_of n f) (f n) ∙ ap (λ (x : ℕ). x + w * f n) (sum-times n w f)
 
--- where all streets have one weight, the sum of the scores times the first is the sum of what they count
-pub even_sum : {n : ℕ} {weights : List ℕ} {even : Bool} → Weighed n weights even → even ≡ true → (f : ℕ → ℕ) {w x : ℕ} → w ≡ at weights 0
-    → x ≡ sum_of n f → w * x ≡ sum_of n (λ s. at weights s * f s)
-even_sum {n} {weights} h set f {w} {x} e q =
-    ap (λ (y : ℕ). y * x) e ∙ ap (λ (y : ℕ). at weights 0 * y) q ∙ sum-times n (at weights 0) f
-    ∙ sum_of-same n _ _ (λ s l. ap (λ (y : ℕ). y * f s) (sym (h.equal set s (omega (arith, h.size)))))
+-- where all streets have one weight, the sum of the scores times it is the sum of what they count
+pub even_sum : (n w : ℕ) (f : ℕ → ℕ) {x y : ℕ} → y ≡ w → x ≡ sum_of n f → y * x ≡ sum_of n (λ s. w * f s)
+even_sum n w f {x} e q = ap (λ (y : ℕ). y * x) e ∙ ap (λ (y : ℕ). w * y) q ∙ sum-times n w f
 
 -- ---- a sum by parts
 -- scores stay scores in a part
@@ -87,7 +86,7 @@ sum-parts : (a b : ℕ) (f : ℕ → ℕ) → sum_of (a + b) f ≡ sum_of a f + 
 sum-parts a zero f = rw add-zero (omega arith)
 sum-parts a (suc b) f = rw add-suc (omega (arith, sum-parts a b f))
 
-module _ {bests row : List ℕ} (b : Beside bests row) (from : ℕ) {to : ℕ} (e : to ≡ min (from + 64) (length bests)) where
+module _ {bests row : List ℕ} (b : Beside bests row) (from : ℕ) {to : ℕ} (e : to ≡ min (length bests) (from + 64)) where
   -- the streets of a part
   part-size : length (part from to bests) ≡ to - from
   part-size = part_length from to bests (omega arith)
@@ -135,41 +134,41 @@ module _ {n m : ℕ} {values : List ℕ} (t : SiteTable n m values) {a : ℕ} (l
   )
 
   -- it has a value for each street
-  pub row-length : length (part (a * n) (a * n + n) values) ≡ n
-  row-length = omega (arith, part_length (a * n) (a * n + n) values row_ends.0)
+  pub row-length : length (row_at n values a) ≡ n
+  row-length = rw (← row-part n values a) (omega (arith, part_length (a * n) (a * n + n) values row_ends.0))
 
-  pub row_at : (s : ℕ) → s < n → at (part (a * n) (a * n + n) values) s ≡ site_value values n s a
-  row_at s k = part_at (a * n) (a * n + n) values row_ends.0 s (omega arith)
+  pub row-value : (s : ℕ) → s < n → at (row_at n values a) s ≡ site_value values n s a
+  row-value s k = rw (← row-part n values a) (part_at (a * n) (a * n + n) values row_ends.0 s (omega arith))
 
-  row_small : Scores (part (a * n) (a * n + n) values)
-  row_small = part_small (a * n) (a * n + n) values row_ends.0 t.small
+  row_small : Scores (row_at n values a)
+  row_small = rw (← row-part n values a) (part_small (a * n) (a * n + n) values row_ends.0 t.small)
 
--- the part of the table that is lent for a site stands beside the bests
-pub row-beside : {m a : ℕ} {values : List ℕ} (bests : List ℕ) → SiteTable (length bests) m values → a ≤ m → Scores bests
-    → Beside bests (part (a * length bests) (a * length bests + length bests) values)
-row-beside bests t l low = record { size = row-length t l; few = t.few-streets; small-bests = low; small = row_small t l }
+-- the row that is lent for a site stands beside the bests
+pub row-beside : {n m a : ℕ} {values bests row : List ℕ} → SiteTable n m values → a ≤ m → length bests ≡ n → Scores bests
+    → row ≡ row_at n values a → Beside bests row
+row-beside t l e low q =
+    rw q (record { size = row-length t l ∙ sym e; few = omega (arith, e, t.few-streets); small-bests = low; small = row_small t l })
 
-module _ {m : ℕ} {values : List ℕ} (weights bests : List ℕ) (t : SiteTable (length bests) m values) where
+module _ {n m : ℕ} {values : List ℕ} (w : ℕ → ℕ) (bests : List ℕ) (t : SiteTable n m values) where
   -- what is summed over it by the weights is the total with the site
-  pub row-sum : {a r : ℕ} → a ≤ m
-      → r ≡ sum_of (length bests) (λ s. at weights s * max (at bests s) (at (part (a * length bests) (a * length bests + length bests) values) s))
-      → r ≡ with_site weights values bests a
-  row-sum l e = e ∙ sum_of-same (length bests) _ _ (λ s k. ap (λ (x : ℕ). at weights s * max (at bests s) x) (row_at t l s k))
+  pub row-sum : {a r k : ℕ} {row : List ℕ} → a ≤ m → k ≡ n → row ≡ row_at n values a → r ≡ sum_of k (λ s. w s * max (at bests s) (at row s))
+      → r ≡ with_site w values n bests a
+  row-sum l q p e = (rw (q, p) at e) ∙ sum_of-same n _ _ (λ s k. ap (λ (x : ℕ). w s * max (at bests s) x) (row-value t l s k))
 
   -- the total without a site is no greater than that with it, which is at most 400 times the greatest value
-  pub with-range : Weights weights → Scores bests → (a : ℕ)
-      → (with_none weights bests ≤ with_site weights values bests a) × (with_site weights values bests a ≤ most_worth)
+  pub with-range : ((s : ℕ) → w s ≤ top_weight) → Scores bests → (a : ℕ)
+      → (with_none w n bests ≤ with_site w values n bests a) × (with_site w values n bests a ≤ most_worth)
   with-range light low a =
-      let n : ℕ = length bests in
       let better : (s : ℕ) → max (at bests s) (site_value values n s a) ≤ top_score = λ s. omega (arith, low s, t.small (a * n + s)) in (
-        sum_of-le n _ _ (λ s l. mul-le-mul_left {m = at bests s} {n = max (at bests s) (site_value values n s a)} (at weights s) (omega arith)),
+        sum_of-le n _ _ (λ s l. mul-le-mul_left {m = at bests s} {n = max (at bests s) (site_value values n s a)} (w s) (omega arith)),
         omega (
           arith,
-          sum-small n most_value (λ s. at weights s * max (at bests s) (site_value values n s a)) (λ s. counted-small (light s) (better s)),
+          sum-small n most_value (λ s. w s * max (at bests s) (site_value values n s a)) (λ s. counted-small (light s) (better s)),
           t.few-streets,
         ),
       )
 
 -- what holds of the bounds and the best so far in either case of a turn holds after it
-pub either_way : (P : List ℕ → Found → Type 0) {bounds now : List ℕ} {found best : Found} → bounds ≡ now → found ≡ best → P now best → P bounds found
+pub either_way : (P : List ℕ → Option Found → Type 0) {bounds now : List ℕ} {found best : Option Found} → bounds ≡ now → found ≡ best → P now best
+    → P bounds found
 either_way P {now = now} {found = found} e q h = rw (e, q) h

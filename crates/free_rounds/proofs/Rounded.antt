@@ -25,7 +25,7 @@ use Rattle.free_plan.proofs.Weighed.{best-with, total-times, total-with-times}
 use Rattle.free_rounds.proofs.RoundLoops.{bounded-same}
 use Rattle.free_rounds.specs.declared.State.{State}
 use Rattle.choices.specs.Scan.{unflagged}
-use Rattle.free_rounds.specs.Held.{Held, Bounded, Bounds, Scores, counted, sites_of, empty_state, with_none, with_site}
+use Rattle.free_rounds.specs.Held.{Held, Bounded, Bounds, Scores, sites_of, empty_state, with_none, with_site}
 
 -- the empty state holds nothing
 pub held_none : (v : ℕ → ℕ → ℕ) (n : ℕ) → Held v n empty_state
@@ -133,36 +133,33 @@ pub total-is : (w : ℕ → ℕ) (v : ℕ → ℕ → ℕ) (n : ℕ) (state : St
 total-is w v n state h =
     sum_of-same n _ _ (λ s l. ap (λ (x : ℕ). w s * x) (get_or-take n state.bests s 0 l ∙ h.bests s l)) ∙ sym (total-times w v n (sites_of state))
 
-module _ (weights values : List ℕ) {n : ℕ} {state : State} (h : Held (site_value values n) n state) (low : n ≤ most_streets) where
-  -- the bests that are lent are as many as the town has streets
-  whole : length (take n state.bests) ≡ n
-  whole = length-take-le n state.bests (omega (arith, h.bests-size))
-
+module _ (w : ℕ → ℕ) (values : List ℕ) {n : ℕ} {state : State} (h : Held (site_value values n) n state) where
   -- the sum of what the better of best and value counts is the total with the site
-  with-is : (a : ℕ) → with_site weights values (take n state.bests) a ≡ total_with (counted weights values n) n (sites_of state) a
+  with-is : (a : ℕ) → with_site w values n (take n state.bests) a ≡ total_with (λ s a. w s * site_value values n s a) n (sites_of state) a
   with-is a =
-      ap (λ (k : ℕ). sum_of k (λ s. at weights s * max (at (take n state.bests) s) (site_value values k s a))) whole
-      ∙ sum_of-same n _ _
-      (λ s l. ap (λ (x : ℕ). at weights s * max x (site_value values n s a)) (get_or-take n state.bests s 0 l ∙ h.bests s l))
-      ∙ sym (total-with-times (at weights) (site_value values n) n (sites_of state) a)
+      sum_of-same n _ _
+      (λ s l. ap (λ (x : ℕ). w s * max x (site_value values n s a)) (get_or-take n state.bests s 0 l ∙ h.bests s l))
+      ∙ sym (total-with-times w (site_value values n) n (sites_of state) a)
 
   -- the site of greatest sum among those not flagged is the round's choice
   pub choice-is : (m : ℕ) → m ≤ most_sites
-      → greatest (unflagged state.flags) (with_site weights values (take n state.bests)) m ≡ pick (counted weights values n) n m (sites_of state)
+      → greatest (unflagged state.flags) (with_site w values n (take n state.bests)) m
+      ≡ pick (λ s a. w s * site_value values n s a) n m (sites_of state)
   choice-is m few =
-      greatest-same (unflagged state.flags) (unchosen (sites_of state)) _ (total_with (counted weights values n) n (sites_of state)) m
+      greatest-same (unflagged state.flags) (unchosen (sites_of state)) _ (total_with (λ s a. w s * site_value values n s a) n (sites_of state)) m
       (λ a l. ap (λ (t : Bool). ltb 0 a && not t) (h.flags.right a (omega arith))) (λ a l y. with-is a)
 
   -- the state's bounds as bounds of the sums of its bests, and back
-  none_is : with_none weights (take n state.bests) ≡ total (counted weights values n) n (sites_of state)
-  none_is =
-      ap (λ (k : ℕ). sum_of k (λ s. at weights s * at (take n state.bests) s)) whole ∙ total-is (at weights) (site_value values n) n state h
+  none_is : with_none w n (take n state.bests) ≡ total (λ s a. w s * site_value values n s a) n (sites_of state)
+  none_is = total-is w (site_value values n) n state h
 
   module _ (bounds : List ℕ) where
-    pub bounds-out : Bounded (total_with (counted weights values n) n (sites_of state)) (total (counted weights values n) n (sites_of state)) bounds
-        → Bounded (with_site weights values (take n state.bests)) (with_none weights (take n state.bests)) bounds
+    pub bounds-out : Bounded (total_with (λ s a. w s * site_value values n s a) n (sites_of state))
+        (total (λ s a. w s * site_value values n s a) n (sites_of state)) bounds
+        → Bounded (with_site w values n (take n state.bests)) (with_none w n (take n state.bests)) bounds
     bounds-out b = bounded-same b (λ a. sym (with-is a)) (sym none_is)
 
-    pub bounds-back : Bounded (with_site weights values (take n state.bests)) (with_none weights (take n state.bests)) bounds
-        → Bounded (total_with (counted weights values n) n (sites_of state)) (total (counted weights values n) n (sites_of state)) bounds
+    pub bounds-back : Bounded (with_site w values n (take n state.bests)) (with_none w n (take n state.bests)) bounds
+        → Bounded (total_with (λ s a. w s * site_value values n s a) n (sites_of state))
+        (total (λ s a. w s * site_value values n s a) n (sites_of state)) bounds
     bounds-back b = bounded-same b with-is none_is

@@ -1,11 +1,10 @@
 -- What the engine's state and tables hold: the records that its functions' contracts name.
 -- Assumes nothing.
-use Rattle.std.specs.Prelude.{◌≡◌, Bool, true, false, List, ℕ, ◌+◌, ◌*◌, ◌≤◌, ◌<◌, max, length, take, replicate}
+use Rattle.std.specs.Prelude.{◌≡◌, false, List, ℕ, ◌+◌, ◌*◌, ◌≤◌, ◌<◌, max, length, take, replicate}
 use Rattle.counting.specs.Bounds.{most_streets, most_sites, top_score, top_weight, most_width, most_worth}
 use Rattle.counting.specs.Words.{sum_of}
 use Rattle.counting.specs.Lists.{at}
 use Rattle.counting.specs.Flags.{Flags}
-use Rattle.survey.specs.Rows.{Even}
 use Rattle.tables.specs.Tables.{site_value}
 use Rattle.free_plan.specs.Greedy.{best, total, total_with}
 use Rattle.free_rounds.specs.declared.State.{State}
@@ -50,16 +49,6 @@ Scores scores = (s : ℕ) → at scores s ≤ top_score
 abbrev pub Weights : List ℕ → Type 0
 Weights weights = (s : ℕ) → at weights s ≤ top_weight
 
--- a weight for each of the n streets; where `even` is set, all streets have one weight
-pub record Weighed (n : ℕ) (weights : List ℕ) (even : Bool) : Type 0 where
-  pub size : length weights ≡ n
-  pub small : Weights weights
-  pub equal : even ≡ true → Even weights
-
--- what a site counts for a street, in a table by site: its score times the street's weight
-abbrev pub counted : List ℕ → List ℕ → ℕ → ℕ → ℕ → ℕ
-counted weights values n s a = at weights s * site_value values n s a
-
 -- the streets' bests beside as many values of a site
 pub record Beside (bests row : List ℕ) : Type 0 where
   pub size : length row ≡ length bests
@@ -67,10 +56,10 @@ pub record Beside (bests row : List ℕ) : Type 0 where
   pub small-bests : Scores bests
   pub small : Scores row
 
--- the total over the streets of their bests, by the weights
-abbrev pub with_none : List ℕ → List ℕ → ℕ
-with_none weights bests = sum_of (length bests) (λ s. at weights s * at bests s)
+-- the total over n streets of their bests, by the weights
+abbrev pub with_none : (ℕ → ℕ) → ℕ → List ℕ → ℕ
+with_none weight n bests = sum_of n (λ s. weight s * at bests s)
 
 -- the same with a site besides, in a table by site
-abbrev pub with_site : List ℕ → List ℕ → List ℕ → ℕ → ℕ
-with_site weights values bests a = sum_of (length bests) (λ s. at weights s * max (at bests s) (site_value values (length bests) s a))
+abbrev pub with_site : (ℕ → ℕ) → List ℕ → ℕ → List ℕ → ℕ → ℕ
+with_site weight values n bests a = sum_of n (λ s. weight s * max (at bests s) (site_value values n s a))

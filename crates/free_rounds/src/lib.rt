@@ -6,15 +6,20 @@
 ghost use Rattle.std.specs.Prelude.{◌≡◌, ◌∷◌, [], ◌++◌, ℕ, ◌+◌, ◌≤◌, ◌<◌, length};
 ghost use Rattle.counting.specs.Bounds.{most_sites, most_value};
 ghost use Rattle.counting.specs.Lists.{at};
-ghost use Rattle.tables.specs.Tables.{site_value, SiteTable};
 ghost use Rattle.free_plan.specs.Greedy.{pick, greedy};
-ghost use Rattle.free_rounds.specs.Held.{Held, Bounds, Weighed, counted, sites_of, empty_state};
+ghost use Rattle.free_rounds.specs.Held.{Held, Bounds, sites_of, empty_state};
+ghost use Rattle.free_rounds.specs.Scored.{scored, counted};
+
+use table::Table;
 
 pub mod pick;
 pub mod sums;
+pub mod table;
+pub mod weights;
 
 // The sites chosen so far in order of choice, a flag for each of them, the best score that they give each street,
 // and for each site a bound of what it would raise their total by.
+// kept: an array with a count beside it, which `sites` reads, since the library allocates nothing
 #[derive(Clone, Copy)]
 pub struct State {
     pub chosen: [u8; counting::SITES],
@@ -47,79 +52,66 @@ impl State {
     }
 
     // The state with one site more. Its bounds stay bounds whatever counts for a street, since no rise grows.
-    pub fn taking(mut self, values: &[u16], n: usize, m: usize, site: u8) -> Self
-        requires site_table { SiteTable n m values.now × Held (site_value values.now n) n self }
-        requires site_le_m { (site ≤ m) × (self.count < most_sites) }
+    pub fn taking(mut self, table: Table<'_>, site: u8) -> Self
+        requires held { Held (scored table) table.n self }
+        requires site_le_m { (site ≤ table.m) × (self.count < most_sites) }
         ensures sites { (result.count ≡ self.count + 1) × (sites_of result ≡ sites_of self ++ (site ∷ [])) }
-        ensures held { Held (site_value values.now n) n result }
-        ensures bounds { (v : ℕ → ℕ → ℕ) → Bounds v n self → Bounds v n result }
+        ensures held { Held (scored table.entry) table.entry.n result }
+        ensures bounds { (v : ℕ → ℕ → ℕ) → Bounds v table.entry.n self → Bounds v table.entry.n result }
     {
         let at = self.count;
         let flag = site as usize;
         self.chosen[at] = site;
         self.count = at + 1;
         self.flags[flag] = true;
-        let from = flag * n;
-        let to = from + n;
         let mut bests = self.bests;
-        sums::raise(&mut bests[..n], &values[from..to]);
+        sums::raise(&mut bests[..table.n], table.row(flag));
         self.bests = bests;
         self
     }
 
     // One round: the site that raises the total most is added.
-    pub fn round(mut self, values: &[u16], weights: &[u8], even: bool, n: usize, m: usize) -> Self
-        requires site_table { SiteTable n m values.now × Weighed n weights.now even }
-        requires held_2 { Held (site_value values.now n) n self × Bounds (counted weights.now values.now n) n self }
-        requires count_lt_m { self.count < m }
+    pub fn round(mut self, table: Table<'_>) -> Self
+        requires held { Held (scored table) table.n self × Bounds (counted table) table.n self }
+        requires count_lt_m { self.count < table.m }
         ensures sites { (result.count ≡ self.count + 1)
-            × (sites_of result ≡ sites_of self ++ (pick (counted weights.now values.now n) n m (sites_of self) ∷ [])) }
-        ensures held { Held (site_value values.now n) n result × Bounds (counted weights.now values.now n) n result }
+            × (sites_of result ≡ sites_of self ++ (pick (counted table.entry) table.entry.n table.entry.m (sites_of self) ∷ [])) }
+        ensures held { Held (scored table.entry) table.entry.n result × Bounds (counted table.entry) table.entry.n result }
     {
         let bests = self.bests;
         let flags = self.flags;
         let mut bounds = self.bounds;
-        let site = pick::choose(values, weights, even, &bests[..n], m, &flags, &mut bounds);
+        let site = pick::choose(table, &bests[..table.n], &flags, &mut bounds);
         self.bounds = bounds;
-        self = self.taking(values, n, m, site as u8);
+        self = self.taking(table, site as u8);
         self
     }
 }
 
 // The state with the sites of a given list.
-fn taken(values: &[u16], n: usize, m: usize, sites: &[u8]) -> State
-    requires site_table { SiteTable n m values.now }
-    requires sites_len_bound { (length sites.now ≤ most_sites) × ((i : ℕ) → at sites.now i ≤ m) }
+fn taken(table: Table<'_>, sites: &[u8]) -> State
+    requires { (length sites.now ≤ most_sites) × ((i : ℕ) → at sites.now i ≤ table.m) }
     ensures sites { (result.count ≡ length sites.now) × (sites_of result ≡ sites.now) }
-    ensures held { Held (site_value values.now n) n result }
-    ensures bounds { (v : ℕ → ℕ → ℕ) → ((s a : ℕ) → v s a ≤ most_value) → Bounds v n result }
+    ensures held { Held (scored table.entry) table.entry.n result }
+    ensures bounds { (v : ℕ → ℕ → ℕ) → ((s a : ℕ) → v s a ≤ most_value) → Bounds v table.entry.n result }
 {
     let mut state = State::empty();
-    for i in 0..sites.len() {
-        state = state.taking(values, n, m, sites[i]);
+    for site in sites {
+        state = state.taking(table, *site);
     }
     state
 }
 
 // The state after k rounds from a given list of sites.
-pub fn rounds(
-    values: &[u16],
-    weights: &[u8],
-    even: bool,
-    n: usize,
-    m: usize,
-    sites: &[u8],
-    k: usize,
-) -> State
-    requires site_table { SiteTable n m values.now × Weighed n weights.now even }
-    requires k_len_bound { (length sites.now + k ≤ m) × ((i : ℕ) → at sites.now i ≤ m) }
+pub fn rounds(table: Table<'_>, sites: &[u8], k: usize) -> State
+    requires { (length sites.now + k ≤ table.m) × ((i : ℕ) → at sites.now i ≤ table.m) }
     ensures sites { (result.count ≡ length sites.now + k)
-        × (sites_of result ≡ greedy (counted weights.now values.now n) n m k sites.now) }
-    ensures held { Held (site_value values.now n) n result }
+        × (sites_of result ≡ greedy (counted table.entry) table.entry.n table.entry.m k sites.now) }
+    ensures held { Held (scored table.entry) table.entry.n result }
 {
-    let mut state = taken(values, n, m, sites);
-    for i in 0..k {
-        state = state.round(values, weights, even, n, m);
+    let mut state = taken(table, sites);
+    for _i in 0..k {
+        state = state.round(table);
     }
     state
 }

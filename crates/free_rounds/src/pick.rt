@@ -2,44 +2,33 @@
 ghost use Rattle.std.specs.Prelude.{◌≡◌, length};
 ghost use Rattle.counting.specs.Greatest.{greatest};
 ghost use Rattle.choices.specs.Scan.{unflagged};
-ghost use Rattle.tables.specs.Tables.{SiteTable};
-ghost use Rattle.free_rounds.specs.Held.{Scores, Weighed, Bounded, with_none, with_site};
+ghost use Rattle.free_rounds.specs.Held.{Scores, Bounded, with_none, with_site};
+ghost use Rattle.free_rounds.specs.Weighed.{weight_of};
 
 use crate::sums;
-use choices::Found;
+use crate::table::Table;
 
-// The choice from the table of values and the streets' bests. A site that its bound keeps from being better is passed over: what a site
-// raises the total by never grows from round to round, so the rise that was found last bounds it.
-pub fn choose(
-    values: &[u16],
-    weights: &[u8],
-    even: bool,
-    bests: &[u16],
-    m: usize,
-    flags: &[bool],
-    bounds: &mut [u32],
-) -> usize
-    requires site_table { SiteTable (length bests.now) m values.now × Weighed (length bests.now) weights.now even }
-    requires scores { Scores bests.now × (length flags.now ≡ 256) }
-    requires bounded { Bounded (with_site weights.now values.now bests.now) (with_none weights.now bests.now) bounds.old }
+// The choice from the table and the streets' bests. A site that its bound keeps from being better is passed over: what a site raises the total
+// by never grows from round to round, so the rise that was found last bounds it.
+pub fn choose(table: Table<'_>, bests: &[u16], flags: &[bool], bounds: &mut [u32]) -> usize
+    requires scores { (length bests.now ≡ table.n) × Scores bests.now × (length flags.now ≡ 256) }
+    requires bounded { Bounded (with_site (weight_of table.weights) table.values.now table.n bests.now)
+        (with_none (weight_of table.weights) table.n bests.now) bounds.old }
     ensures site { result ≡ greatest (unflagged flags.now)
-        (with_site weights.now values.now bests.now) m }
-    ensures bounds { Bounded (with_site weights.now values.now bests.now)
-        (with_none weights.now bests.now) bounds.new }
+        (with_site (weight_of table.entry.weights) table.entry.values.now table.entry.n bests.now) table.entry.m }
+    ensures bounds { Bounded (with_site (weight_of table.entry.weights) table.entry.values.now table.entry.n bests.now)
+        (with_none (weight_of table.entry.weights) table.entry.n bests.now) bounds.new }
 {
-    let n = bests.len();
-    let total = sums::sum(bests, weights, even);
-    let mut found = Found { site: 0, most: 0 };
-    for i in 0..m {
+    let total = sums::sum(bests, table.weights);
+    let mut best = None;
+    for i in 0..table.m {
         let a = i + 1;
-        let hope = choices::worth_or_none(total + bounds[a], flags[a]);
-        if found.most < hope {
-            let from = a * n;
-            let to = from + n;
-            let sum = sums::sum_with(bests, &values[from..to], weights, even);
+        let hope = choices::offer(a, total + bounds[a], flags[a]);
+        if choices::beats(hope, best) {
+            let sum = sums::sum_with(bests, table.row(a), table.weights);
             bounds[a] = sum - total;
-            found = choices::better(found, a, choices::worth_or_none(sum, flags[a]));
+            best = choices::better(best, choices::offer(a, sum, flags[a]));
         }
     }
-    found.site
+    choices::number(best)
 }

@@ -6,9 +6,9 @@ use Prim.Native.Nat.{ℕ, ◌+◌, ◌*◌, ◌/◌, ◌%◌, ◌≤◌, ◌<◌
 use native.Mathlib.Nat.{div-add-mod', mod-lt, div-lt_iff_lt-mul, mul-zero}
 use native.Mathlib.Omega.{arith}
 use native.Mathlib.Decide.{dec_lt}
-use lib.ListN.{length, take, replicate}
+use lib.ListN.{take, replicate}
 use Rattle.counting.specs.Bounds.{most_streets, most_sites, top_score, most_entries, most_value}
-use Rattle.counting.specs.Lists.{at, cell}
+use Rattle.counting.specs.Lists.{at}
 use Rattle.counting.proofs.Sums.{at-past}
 use Rattle.counting.proofs.Parts.{front_length, front-blank}
 use Rattle.survey.specs.Town.{Town}

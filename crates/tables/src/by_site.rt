@@ -9,6 +9,8 @@ ghost use Rattle.tables.specs.Tables.{Blank, Tabled};
 
 use survey::accepted::AcceptedTown;
 
+// kept: beside those of `by_street` and `keys`. One function for the three would take the entries' type, the entry of a place and the index of a site
+// as parameters, and ask more of them than the loop has lines.
 // The street s gets the score at the place of each site that it ranked. Any other site keeps its 0, so the row is read once.
 fn fill_street(n: usize, s: usize, scores: &[u16], row: &[u8], values: &mut [u16])
     requires sound { SoundRow (length row.now) row.now × (length scores.now ≡ length row.now) }

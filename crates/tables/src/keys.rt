@@ -56,8 +56,8 @@ fn weigh_site(values: &[u32], a: usize, m: usize, keys: &mut [u32])
 {
     let width = m + 1;
     let base = m as u32 + 2;
-    for s in 0..keys.len() {
-        keys[s] = (MOST_VALUE - values[s * width + a]) * base + keys[s];
+    for (s, key) in keys.iter_mut().enumerate() {
+        *key += (MOST_VALUE - values[s * width + a]) * base;
     }
 }
 
@@ -69,6 +69,7 @@ fn weigh_keys(values: &[u32], n: usize, m: usize, keys: &mut [u32])
     ensures { (a s : ℕ) → a ≤ m → s < n →
         cell keys.new n a s ≡ (most_value - cell values.now (m + 1) s a) * (m + 2) + cell keys.old n a s }
 {
+    // kept: by index, since of a slice that is lent in chunks to be written a proof knows the length alone afterwards
     for a in 0..m + 1 {
         let low = a * n;
         let high = low + n;

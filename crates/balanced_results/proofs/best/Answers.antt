@@ -29,5 +29,6 @@ returns c =
     let begun = c.divide.ensures.begun in
     let streets = c.divide.auto.division ∙ c.requires.division_len in
     let sites = chosen-shareable t c.args.chooser c.args.sites.now _ c.requires.listed c.divide.ensures.sites in
-    let best = as-surveyed t _ (street-same ok c.fill_values.ensures) sites streets begun.shared.size begun.shared.right (c.best.ensures.total, c.best.ensures.division) in
+    let best = as-surveyed t _ (street-same ok c.fill_values.ensures) sites streets begun.shared.size begun.shared.right
+    (c.best.ensures.total, c.best.ensures.division) in
     record { total = best.0; division = best.1; sites = c.divide.ensures.sites }

@@ -1,11 +1,10 @@
-use native.Mathlib.Omega.{arith}
 use Rattle.balanced_rounds.proofs.Rounding.{played-none, played-more}
 use Rattle.balanced_rounds.proofs.rounds.Goals as goal
 
 pub loop-i-init : goal.loop-i-init
-loop-i-init c = (omega arith, played-none c.requires.round_tables.0.few-streets c.empty-state.ensures)
+loop-i-init c = played-none c.args.table.street_table.few-streets c.empty-state.ensures
 
 pub loop-i-preserved : goal.loop-i-preserved
 loop-i-preserved c =
     let share = c.of_round.ensures.0 in
-    (omega arith, played-more c.loop-i.invariant.1 c.round-state.ensures.held (rw share at c.round-state.ensures.state))
+    played-more c.loop-i.invariant c.round-state.ensures.held (rw share at c.round-state.ensures.state)

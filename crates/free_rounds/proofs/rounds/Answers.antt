@@ -4,6 +4,6 @@ use Rattle.free_rounds.proofs.rounds.Goals as goal
 
 pub loop-i-init : goal.loop-i-init
 loop-i-init c =
-    let p = c.requires in
-    let t = c.taken-state.ensures in
-    (omega arith, omega (arith, t.sites.0), t.sites.1, t.held, t.bounds _ (λ s a. counted-small (p.site_table.1.small s) (p.site_table.0.small _)))
+    let t = c.args.table in
+    let taken = c.taken-state.ensures in
+    (omega (arith, taken.sites.0), taken.sites.1, taken.held, taken.bounds _ (λ s a. counted-small (t.weighed.small s) (t.site_table.small _)))

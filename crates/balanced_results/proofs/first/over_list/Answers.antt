@@ -15,5 +15,8 @@ begin-requires c =
     let shared = c.share_out.ensures in
     record {
       problem = problem _ _ (sym p.division_len) (street-ready ok c.args.valued.filled) shared.size shared.nobody;
-      shares_value = (ap share_sum shared.right ∙ for-all t.n p.shareable ∙ sym p.division_len, front_length (t.m + 1) 65 (omega (arith, ok.few-sites)) ∙ sym shared.size);
+      shares_value = (
+        ap share_sum shared.right ∙ for-all t.n p.shareable ∙ sym p.division_len,
+        front_length (t.m + 1) 65 (omega (arith, ok.few-sites)) ∙ sym shared.size,
+      );
     }

@@ -2,7 +2,7 @@ use mathlib.Core.Path.{◌∙◌}
 use Rattle.counting.specs.Bounds.{most_entries}
 use Rattle.counting.proofs.Parts.{front_length}
 use Rattle.tables.proofs.Tabled.{site-fits, street-ready}
-use Rattle.balanced_results.proofs.SurveyRounds.{values-fall, rounds-ready, rounds-surveyed}
+use Rattle.balanced_results.proofs.SurveyRounds.{values-fall, lines-ready, falling-ready, rounds-surveyed}
 use Rattle.balanced_results.proofs.first.play.Goals as goal
 
 pub fill_for_rounds-requires : goal.fill_for_rounds-requires
@@ -17,12 +17,16 @@ fill_orders-requires c =
     let blank = front_length _ most_entries (site-fits ok) in
     (ok.few-streets, ok.few-sites, c.fill_for_rounds.auto.keys ∙ blank, blank)
 
-pub rounds-requires : goal.rounds-requires
-rounds-requires c =
+pub invariant_of-table : goal.invariant_of-table
+invariant_of-table c =
     let v = c.args.valued in
     let ok = v.town.accepted in
     let size = c.fill_orders.auto.orders ∙ front_length _ most_entries (site-fits ok) in
-    record { round_tables = rounds-ready ok v.filled _ _ c.fill_for_rounds.ensures size c.fill_orders.ensures; k_nonzero = c.requires }
+    record {
+      street_table = street-ready ok v.filled;
+      lines = lines-ready ok v.filled _ _ c.fill_for_rounds.ensures size c.fill_orders.ensures;
+      falling = falling-ready ok v.filled _ _ c.fill_for_rounds.ensures size c.fill_orders.ensures;
+    }
 
 pub returns-clause-state : goal.returns-clause-state
 returns-clause-state c =

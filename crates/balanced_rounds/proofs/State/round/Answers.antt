@@ -1,22 +1,26 @@
-use Rattle.counting.proofs.Equations.{along}
 use native.Mathlib.Omega.{arith}
-use mathlib.Core.Path.{◌≡◌, ap, ◌∙◌}
+use mathlib.Core.Path.{ap, ◌∙◌}
 use Prim.Native.Nat.{ℕ}
-use Rattle.tables.specs.Tables.{value_in}
-use lib.ListN.{length, take}
 use lib.Seq.{length-take-le}
-use Rattle.balanced_plan.specs.Rounds.{choice, taken}
-use Rattle.balanced_rounds.specs.Lines.{state_of, Orders}
+use Rattle.tables.specs.Tables.{value_in}
+use Rattle.balanced_plan.specs.Rounds.{taken}
+use Rattle.balanced_rounds.specs.Lines.{state_of}
 use Rattle.balanced_rounds.proofs.Rounding.{choice-flagged}
 use Rattle.balanced_rounds.proofs.State.round.Goals as goal
 
+pub choose-site-requires : goal.choose-site-requires
+choose-site-requires c =
+    let t = c.args.table in
+    let whole = length-take-le t.n c.args.self.division (omega (arith, t.street_table.few-streets, c.requires.0.division-size)) in
+    (whole, c.requires.2, c.requires.0.flags.size)
+
 pub returns : goal.returns
 returns c =
-    let whole : length (take c.args.n c.args.self.division) ≡ c.args.n = length-take-le c.args.n c.args.self.division (omega (arith, c.requires.round_tables.0.few-streets, c.requires.well_formed.0.division-size)) in
-    let chosen : let a = c.args in (key : ℕ → ℕ → ℕ) → Orders key a.n a.m a.orders.now
-    → c.choose-site.result ≡ choice (value_in a.values.now a.m) key a.m a.q (state_of a.n a.self) = λ key o. let a = c.args in
-    c.choose-site.ensures.choice key (along (λ (k : ℕ). Orders key k a.m a.orders.now) (whole) o)
-    ∙ choice-flagged (value_in a.values.now a.m) key a.n a.m a.q c.requires.well_formed.0 c.requires.round_tables.0.few-sites in
-    let a = c.args in
-    let t = c.taking-self.ensures in
-    record { held = t.held; state = λ key o. t.state key o ∙ ap (λ (x : ℕ). taken key a.q (state_of a.n a.self) x) (chosen key o) }
+    let t = c.args.table in
+    let more = c.taking-self.ensures in
+    record {
+      held = more.held;
+      state = λ key o. more.state key o ∙ ap (λ (x : ℕ). taken key c.args.q (state_of t.n c.args.self) x)
+          (c.choose-site.ensures.choice key o
+          ∙ choice-flagged (value_in t.values.now t.m) key t.n t.m c.args.q c.requires.0 t.street_table.few-sites);
+    }

@@ -7,4 +7,5 @@ pub returns : goal.returns
 returns c =
     let r = c.args.self in
     let t = r.town.town in
-    added_is t.scores.now t.n r.t t.m r.k c.args.i _ _ r.town.accepted.sound-scores r.town.accepted.few-streets c.of_round-share.ensures (c.from.ensures ∙ c.sure.ensures)
+    added_is t.scores.now t.n r.t t.m r.k c.args.i _ _ r.town.accepted.sound-scores r.town.accepted.few-streets
+    c.of_round-share.ensures (c.from.ensures ∙ c.sure.ensures)

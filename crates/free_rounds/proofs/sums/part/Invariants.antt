@@ -1,9 +1,8 @@
 use mathlib.Core.Path.{◌≡◌}
 use Prim.Native.Nat.{◌≤◌, ◌*◌, max}
-use lib.ListN.{length}
 use Rattle.counting.specs.Words.{sum_of}
 use Rattle.counting.specs.Lists.{at}
 use Rattle.free_rounds.proofs.sums.part.Given as goal
 
 abbrev pub invariant-loop-s : goal.invariant-loop-s
-invariant-loop-s l = (l.s ≤ l.s-end) × (l.s-end ≡ length l.bests) × (l.sum ≡ sum_of l.s (λ t. max (at l.bests t) (at l.row t))) × (l.sum ≤ l.s * 1000)
+invariant-loop-s l = (l.sum ≡ sum_of l.s (λ t. max (at l.bests t) (at l.row t))) × (l.sum ≤ l.s * 1000)

@@ -13,5 +13,8 @@ pub loop-s-preserved : goal.loop-s-preserved
 loop-s-preserved c =
     let l = c.loop-s in
     let call = c.fill_street in
-    let same = call.auto.values in
-    (filled_more c.args.town.accepted (omega (arith, c.args.town.accepted.weights-fit)) c.row.ensures l.invariant.0 call.new.values same call.ensures, same ∙ l.invariant.1)
+    let same = call.auto.values in (
+      filled_more c.args.town.accepted (omega (arith, c.args.town.accepted.weights-fit)) c.row.ensures l.invariant.0 call.new.values same
+          call.ensures,
+      same ∙ l.invariant.1,
+    )

@@ -9,7 +9,11 @@ weigh_keys-requires c =
     let placed : List ℕ = c.fill_keys.new.keys in
     let t = c.args.town.town in
     let p = c.requires in
-    record { street_table = p.street_table; keys_len = c.fill_keys.auto.keys ∙ p.keys_len; by_index = places-small t.rows.now placed c.fill_keys.ensures c.args.town.accepted.few-sites }
+    record {
+      street_table = p.street_table;
+      keys_len = c.fill_keys.auto.keys ∙ p.keys_len;
+      by_index = places-small t.rows.now placed c.fill_keys.ensures c.args.town.accepted.few-sites;
+    }
 
 pub returns-else-not-even : goal.returns-else-not-even
 returns-else-not-even c =

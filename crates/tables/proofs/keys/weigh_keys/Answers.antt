@@ -1,4 +1,3 @@
-use mathlib.Core.Path.{refl}
 use native.Mathlib.Omega.{arith}
 use Rattle.tables.proofs.Weighed.{weighed-more}
 use Rattle.tables.proofs.keys.weigh_keys.Goals as goal
@@ -8,4 +7,4 @@ loop-a-preserved c =
     let a = c.args in
     let p = c.requires in
     let l = c.loop-a in
-    (omega arith, refl, weighed-more a.m p.keys_len l.invariant.2 (omega arith) _ c.weigh_site.ensures)
+    weighed-more a.m p.keys_len l.invariant (omega arith) _ c.weigh_site.ensures
