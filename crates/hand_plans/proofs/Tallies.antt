@@ -2,14 +2,18 @@
 -- Assumes nothing.
 use mathlib.Core.Path.{◌≡◌, refl, ap, ◌∙◌}
 use mathlib.Core.Bool.{Bool, true, false, not}
+use mathlib.Mathlib.Data.Bool.Basic.{dichotomy}
 use mathlib.Core.Logic.{⊎_elim}
 use mathlib.Core.List.{List, []}
-use Prim.Native.Nat.{ℕ, suc, ◌+◌, ◌≤◌, ◌<◌}
+use Prim.Native.Nat.{ℕ, zero, suc, ◌+◌, ◌-◌, ◌≤◌, ◌<◌}
 use native.Mathlib.Nat.{eq-zero-or-pos}
 use native.Mathlib.Numerals.{add-one}
 use native.Mathlib.Omega.{arith}
 use lib.Dec.{ltb, eqb}
-use lib.ListN.{length, take}
+use lib.ListN.{length, take, drop, length-drop}
+use Rattle.std.specs.List.{count_by}
+use Rattle.std.proofs.lemmas.List.{get_or-drop}
+use Rattle.std.proofs.lemmas.List.Sums.{count_by_more_yes, count_by_more_no}
 use borrow.Author.Tests.{lt-ltb, le-ltb, eq-eqb, ne_eqb}
 use Rattle.counting.specs.Words.{◌when◌, ◌unless◌, one, count_of}
 use Rattle.counting.specs.Lists.{at, count}
@@ -23,6 +27,21 @@ use Rattle.refusals.specs.Refusals.{sites_with}
 use Rattle.hand_plans.specs.Counts.{between}
 
 -- ---- the table
+-- the library's count of a list's numbers is the count over its indices
+counted : (p : ℕ → Bool) (xs : List ℕ) (m : ℕ) → m ≤ length xs → count_by p (take m xs) ≡ count_of m (λ a. p (at xs a))
+counted p xs zero l = refl
+counted p xs (suc m) l =
+    let before : count_by p (take m xs) ≡ count_of m (λ a. p (at xs a)) = counted p xs m (omega arith) in
+    ⊎_elim (λ t. omega (arith, rw add-one at (count_by_more_no p xs m 0 (omega arith) t), before, ap one t))
+    (λ t. omega (arith, rw add-one at (count_by_more_yes p xs m 0 (omega arith) t), before, ap one t)) (dichotomy (p (at xs m)))
+
+pub counted-from : (p : ℕ → Bool) (counts : List ℕ) (m : ℕ) → m + 1 ≤ length counts
+    → count_by p (take (m + 1 - 1) (drop 1 counts)) ≡ count_of m (λ a. p (at counts (suc a)))
+counted-from p counts m l =
+    let back : m + 1 - 1 ≡ m = omega arith in
+    let next : (a : ℕ) → at (drop 1 counts) a ≡ at counts (suc a) = λ a. get_or-drop 1 counts a 0 ∙ ap (at counts) (omega arith) in
+    rw back (counted p (drop 1 counts) m (omega (arith, length-drop 1 counts)) ∙ sum_of-same m _ _ (λ a k. ap (λ (x : ℕ). one (p x)) (next a)))
+
 -- what the table says of the sites is said of the division
 sites-counted : (counts division : List ℕ) (m : ℕ) (test : ℕ → Bool) → m ≤ 64 → Summed (λ s. 1) counts division
     → count_of m (λ i. test (at counts (suc i))) ≡ sites_with test m division

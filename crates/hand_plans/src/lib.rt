@@ -1,9 +1,9 @@
 // The test of a hand-made plan: the refusal that turns it down, and none where it passes.
 #![tactic(auto, using(call_answers::proofs::Refused::tries, counting::proofs::Refusals::chain))]
 
-ghost use Rattle.std.specs.Prelude.{◌≡◌, ◌≤◌, ◌<◌, IfOk, suc, length};
+ghost use Rattle.std.specs.Prelude.{◌≡◌, ◌≤◌, ◌<◌, IfOk, suc, length, count_by};
 ghost use Rattle.counting.specs.Bounds.{most_streets, most_sites};
-ghost use Rattle.counting.specs.Words.{◌or_else◌, one, count_of};
+ghost use Rattle.counting.specs.Words.{◌or_else◌, count_of};
 ghost use Rattle.counting.specs.Lists.{at};
 ghost use Rattle.call_answers.specs.Answers.{number, Tried};
 ghost use Rattle.survey.specs.Town.{lent};
@@ -35,11 +35,14 @@ fn count_streets(division: &[u8]) -> [usize; 256]
     counts
 }
 
-// 1 for a site with a number of streets within the bounds, else 0.
-fn one_within(streets: usize, least: usize, most: usize) -> usize
-    ensures { result ≡ one (between least most streets) }
+// The numbers of streets that are within the bounds.
+fn count_within(streets: &[usize], least: usize, most: usize) -> usize
+    ensures { result ≡ count_by (between least most) streets.now }
 {
-    usize::from(!outside(streets, least, most))
+    streets
+        .iter()
+        .filter(|x| !outside(**x, least, most))
+        .count()
 }
 
 // The sites of 1 to m whose numbers of streets are within the bounds.
@@ -47,11 +50,7 @@ fn count_sites(counts: &[usize; 256], m: usize, least: usize, most: usize) -> us
     requires { m ≤ most_sites }
     ensures { result ≡ count_of m (λ a. between least most (at counts.now (suc a))) }
 {
-    let mut sites: usize = 0;
-    for a in 0..m {
-        sites += one_within(counts[a + 1], least, most);
-    }
-    sites
+    count_within(&counts[1..m + 1], least, most)
 }
 
 // 18 of a free plan: more than k sites are used. No site has more than all streets, so those with 1 street up to all are the used ones.

@@ -85,6 +85,7 @@ impl<'a> Loads<'a> {
     {
         let kilograms = sum_sites(division, self.kilograms);
         let litres = sum_sites(division, self.litres);
+        // kept: the new form is no plainer, since the site's number is looked up in four tables
         for a in 0..m {
             self.try_site(a, kilograms[a + 1], litres[a + 1])?;
         }

@@ -6,7 +6,7 @@ ghost use Rattle.refusals.specs.Inputs.{survey_of, plan_of};
 ghost use Rattle.plan_calls.specs.Calls.{Planned, FloorGiven};
 
 use call_answers::Refusal;
-use survey::Town;
+use survey::{Kind, Town};
 
 // The plan of k sites, free for kind 0 and balanced for kind 1, into buffers of n and of k bytes. In a balanced one every site gets its share of the
 // streets, n / k, and the first n % k chosen sites get one street more each. Refuses with 1, 2, 3, 4, 5 (balanced), 6, 8, 24, 9, 10 or 11.
@@ -19,11 +19,11 @@ pub fn plan(
 ) -> Result<u32, Refusal>
     ensures { Planned (plan_of (lent town.entry) k kind division.old chosen.old) division.new chosen.new result }
 {
-    let accepted = refusals::try_plan(town, k, kind, division, chosen)?;
-    if kind == 0 {
-        return Ok(free_results::plan(accepted, division, chosen));
+    let (accepted, decoded) = refusals::try_plan(town, k, kind, division, chosen)?;
+    match decoded {
+        Kind::Free => Ok(free_results::plan(accepted, division, chosen)),
+        Kind::Balanced => Ok(balanced_results::plan(accepted, division, chosen)),
     }
-    Ok(balanced_results::plan(accepted, division, chosen))
 }
 
 // The floor: what every balanced plan of k sites totals at least. Refuses with 1, 2, 3, 5, 6, 8, 24, 9, 10 or 11.

@@ -123,11 +123,11 @@ module _ {i : PlanInput} (tried : Tried plan_refusal i 0) where
       buffers-fit i.town.n i.k i.division i.chosen
       (or-zero (plan_kind_refusal i.kind i.town.n i.k) _ (own-accepted i.town i.k _ (passed tried))).1
 
-  -- so the survey is sound, and there is a place for one site at least and for m at most
-  pub plan-asked : Accepted i.town × (0 < length i.chosen) × (length i.chosen ≤ i.town.m)
+  -- so there is a place for one site at least and for m at most
+  pub plan-asked : (0 < length i.chosen) × (length i.chosen ≤ i.town.m)
   plan-asked =
       let call = called i.town i.k _ (passed tried) in
-      (call.survey, omega (arith, plan-fits.1, call.some), omega (arith, plan-fits.1, call.few))
+      (omega (arith, plan-fits.1, call.some), omega (arith, plan-fits.1, call.few))
 
 -- a floor has a sound survey and a number of sites of 1 to m
 pub floor-called : {i : SurveyInput} → Tried floor_refusal i 0 → Called i.town i.k

@@ -146,7 +146,7 @@ fn try_buffers(n: usize, k: usize, division: &[u8], chosen: &[u8]) -> Result<(),
 // 4: a kind that is neither free nor balanced; else the kind.
 pub fn try_kind(kind: usize) -> Result<Kind, Refusal>
     ensures refusal { number result ≡ kind_refusal kind }
-    ensures decoded { IfOk result (λ k. kind_number k ≡ kind) }
+    ensures decoded { IfOk result (λ x. kind_number x ≡ kind) }
 {
     Kind::try_from(kind)
 }
@@ -154,35 +154,40 @@ pub fn try_kind(kind: usize) -> Result<Kind, Refusal>
 // What a plan is tried for by its kind: 4, and 5 of a balanced one; else the kind.
 pub fn try_plan_kind(kind: usize, n: usize, k: usize) -> Result<Kind, Refusal>
     ensures refusal { number result ≡ plan_kind_refusal kind n k }
-    ensures decoded { IfOk result (λ k. kind_number k ≡ kind) }
+    ensures decoded { IfOk result (λ x. kind_number x ≡ kind) }
 {
-    let kind = try_kind(kind)?;
-    if kind == Kind::Balanced {
+    let decoded = try_kind(kind)?;
+    if decoded == Kind::Balanced {
         try_share(n, k)?;
     }
-    Ok(kind)
+    Ok(decoded)
 }
 
-// What a plan is tried for besides its survey: its kind, then 6 for its two buffers.
-fn try_own(kind: usize, n: usize, k: usize, division: &[u8], chosen: &[u8]) -> Result<(), Refusal>
-    ensures { number result ≡ plan_kind_refusal kind n k or_else buffers_refusal n k division.now chosen.now }
+// What a plan is tried for besides its survey: its kind, then 6 for its two buffers; else the kind.
+fn try_own(kind: usize, n: usize, k: usize, division: &[u8], chosen: &[u8]) -> Result<Kind, Refusal>
+    ensures refusal { number result ≡ plan_kind_refusal kind n k or_else buffers_refusal n k division.now chosen.now }
+    ensures decoded { IfOk result (λ x. kind_number x ≡ kind) }
 {
-    try_plan_kind(kind, n, k)?;
-    try_buffers(n, k, division, chosen)
+    let decoded = try_plan_kind(kind, n, k)?;
+    try_buffers(n, k, division, chosen)?;
+    Ok(decoded)
 }
 
-// A plan of either kind.
+// A plan of either kind; else its town and its kind.
 pub fn try_plan<'a>(
     town: Town<'a>,
     k: usize,
     kind: usize,
     division: &[u8],
     chosen: &[u8],
-) -> Result<AcceptedTown<'a>, Refusal>
+) -> Result<(AcceptedTown<'a>, Kind), Refusal>
     ensures tried { Tried plan_refusal (plan_of (lent town.entry) k kind division.now chosen.now) (number result) }
-    ensures same_town { IfOk result (λ a. a.town ≡ town.entry) }
+    ensures same_town { IfOk result (λ x. x.0.town ≡ town.entry) }
+    ensures decoded { IfOk result (λ x. kind_number x.1 ≡ kind) }
 {
-    check::try_survey(town, k, try_own(kind, town.n, k, division, chosen))
+    let own = try_own(kind, town.n, k, division, chosen);
+    let accepted = check::try_survey(town, k, own)?;
+    Ok((accepted, own?))
 }
 
 // A floor.

@@ -132,6 +132,7 @@ fn try_rows(town: Town<'_>) -> Result<(), Refusal>
     ensures { number result ≡ rows_refusal town.entry.n town.entry.m town.entry.rows.now }
 {
     let bits = quick::site_bits(town.m);
+    // kept: the new form is no plainer, since the street's number gives its row
     for s in 0..town.n {
         try_street(town, &bits, s)?;
     }

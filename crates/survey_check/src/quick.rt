@@ -11,6 +11,7 @@ pub fn site_bits(m: usize) -> [u64; 256]
     ensures { SiteBits m result }
 {
     let mut bits = [0u64; 256];
+    // kept: the new form is no plainer, since the number makes the bit
     for j in 0..m {
         bits[j + 1] = 1u64 << j;
     }
