@@ -79,7 +79,8 @@ impl<'a> Loads<'a> {
     // 22 and 23: the sites by number, at each of them kilograms before litres. What streets bring that have no site is held against no limit.
     pub fn try_limits(self, m: usize, division: &[u8]) -> Result<(), Refusal>
         requires sizes { (m ≤ most_sites) × (length division.now ≤ most_streets) }
-        requires kilograms { (length self.kilograms.now ≡ length division.now) × (above_refusal self.kilograms.now ≡ 0) × (length self.kilogram_limits.now ≡ m) }
+        requires kilograms { (length self.kilograms.now ≡ length division.now) × (above_refusal self.kilograms.now ≡ 0)
+            × (length self.kilogram_limits.now ≡ m) }
         requires litres { (length self.litres.now ≡ length division.now) × (above_refusal self.litres.now ≡ 0) × (length self.litre_limits.now ≡ m) }
         ensures { number result ≡ limits_refusal m (loads_lent self.entry) division.now }
     {
