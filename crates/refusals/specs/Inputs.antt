@@ -1,5 +1,5 @@
 -- What each call is given, in one record: a further input of a call is a further field. A buffer that is lent stands here as it is when the
--- call begins. Each record is written in one place, `.._of`; `.._lent` is the input of a call on a file by its parameters, for its contract.
+-- call begins. Each record is written in one place, `.._of`.
 -- Assumes nothing.
 use Rattle.std.specs.Prelude.{ℕ, Bool, List}
 use Rattle.survey.specs.Town.{Town, town_of}
@@ -73,9 +73,6 @@ pub record WriteInput : Type 0 where
 abbrev pub write_of : Filed → List ℕ → WriteInput
 write_of filed file = record { filed = filed; file = file }
 
-abbrev pub write_lent : ℕ → ℕ → ℕ → ℕ → Bool → List ℕ → List ℕ → List ℕ → List ℕ → WriteInput
-write_lent n m k kind new_form scores weights rows file = write_of (filed_of new_form (town_of n m scores weights rows) k kind) file
-
 -- a file, and buffers for its scores, weights and rows
 pub record ReadInput : Type 0 where
   pub file : List ℕ
@@ -86,9 +83,6 @@ pub record ReadInput : Type 0 where
 abbrev pub read_of : List ℕ → List ℕ → List ℕ → List ℕ → ReadInput
 read_of file scores weights rows = record { file = file; scores = scores; weights = weights; rows = rows }
 
-abbrev pub read_lent : List ℕ → List ℕ → List ℕ → List ℕ → ReadInput
-read_lent file scores weights rows = read_of file scores weights rows
-
 -- a file, the form in which it is wanted, and a buffer for that
 pub record ConvertInput : Type 0 where
   pub file : List ℕ
@@ -97,6 +91,3 @@ pub record ConvertInput : Type 0 where
 
 abbrev pub convert_of : List ℕ → Bool → List ℕ → ConvertInput
 convert_of file wanted buffer = record { file = file; wanted = wanted; buffer = buffer }
-
-abbrev pub convert_lent : List ℕ → Bool → List ℕ → ConvertInput
-convert_lent file wanted buffer = convert_of file wanted buffer
