@@ -18,7 +18,7 @@ pub mod table;
 mod walks;
 
 // The sites chosen so far in order of choice, a flag for each of them, and each street's site, 0 while it is free.
-// kept: an array with a count beside it, which `sites` reads, since the library allocates nothing
+// kept: an array with a count beside it, which `sites` reads: the library allocates nothing
 #[derive(Clone, Copy)]
 pub struct State {
     pub chosen: [u8; counting::SITES],

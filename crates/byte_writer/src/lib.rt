@@ -4,6 +4,7 @@
 ghost use Rattle.std.specs.Prelude.{◌+◌, ◌≤◌, length};
 ghost use Rattle.counting.specs.Buffers.{Written};
 
+// kept: a buffer and an index, since what a struct with a `&mut` leaves in the caller's buffer would need a clause on loans at each function.
 // The bytes of a list: sites, a byte each, or a text.
 pub fn write_list(list: &[u8], out: &mut [u8], i: usize) -> usize
     requires { i + length list.now ≤ length out.old }

@@ -65,6 +65,7 @@ pub fn best_site(sums: &[u32], flags: &[bool], m: usize) -> usize
     ensures { result ≡ greatest (unflagged flags.now) (at sums.now) m }
 {
     let mut best = None;
+    // kept: the new form is no plainer: sites count from 1, and two lists go in step whose first entry is no site's
     for i in 0..m {
         let a = i + 1;
         best = better(best, offer(a, sums[a], flags[a]));

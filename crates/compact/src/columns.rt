@@ -22,6 +22,7 @@ pub fn fill(values: &[u32], w: usize, sites: &[u8], k: usize, n: usize, table: &
     requires by_index { ((i : ℕ) → at values.now i ≤ most_value) × ((i : ℕ) → at table.old i ≡ 0) }
     ensures { Columns values.now w sites.now table.new k n }
 {
+    // kept: of a slice that is lent in chunks to be written a proof knows the length alone afterwards
     for s in 0..n {
         let from = s * w;
         let to = from + w;

@@ -26,6 +26,7 @@ impl Numbering {
         let mut numbers = [0; WIDTH];
         let mut few = [0; WIDTH];
         let mut count = 1;
+        // kept: the new form is no plainer: the site's number is stored, and three lists are written at two places
         for a in 1..shares.len() {
             if shares[a] != 0 {
                 sites[count] = a as u8;

@@ -17,6 +17,7 @@ fn fill_scores(file: &[u8], m: usize, scores: &mut [u16])
     requires { (9 + 2 * m ≤ length file.now) × (m ≤ length scores.old) }
     ensures { Mapped (λ i x. word_at file.now (9 + 2 * i)) scores.old scores.new m }
 {
+    // kept: the new form is no plainer: the place in the file goes by the number, too
     for i in 0..m {
         scores[i] = fields::word_at(file, 9 + 2 * i) as u16;
     }
@@ -35,6 +36,7 @@ fn fill_weights(file: &[u8], from: usize, n: usize, new_form: bool, weights: &mu
     requires { (new_form ≡ true → from + n ≤ length file.now) × (n ≤ length weights.old) }
     ensures { Mapped (λ i x. cond new_form (at file.now (from + i)) 1) weights.old weights.new n }
 {
+    // kept: the new form is no plainer: the place in the file goes by the number, too
     for i in 0..n {
         weights[i] = weight(file, from, i, new_form);
     }
@@ -70,6 +72,7 @@ fn fill_rows<'a>(taken: TakenFile<'a>, rows: &mut [u8])
 {
     let Sizes { n, m, new_form, .. } = taken.sizes;
     let mut from = 9 + 2 * m + weights_size(n, new_form);
+    // kept: of a slice that is lent in chunks to be written a proof knows the length alone afterwards
     for s in 0..n {
         let low = s * m;
         fill_row(taken.file, from, &mut rows[low..low + m]);

@@ -19,7 +19,7 @@ pub mod weights;
 
 // The sites chosen so far in order of choice, a flag for each of them, the best score that they give each street,
 // and for each site a bound of what it would raise their total by.
-// kept: an array with a count beside it, which `sites` reads, since the library allocates nothing
+// kept: an array with a count beside it, which `sites` reads: the library allocates nothing
 #[derive(Clone, Copy)]
 pub struct State {
     pub chosen: [u8; counting::SITES],

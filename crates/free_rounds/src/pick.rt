@@ -21,6 +21,7 @@ pub fn choose(table: Table<'_>, bests: &[u16], flags: &[bool], bounds: &mut [u32
 {
     let total = sums::sum(bests, table.weights);
     let mut best = None;
+    // kept: the new form is no plainer: sites count from 1, two lists go in step, one of which is written, and the table is read by the number
     for i in 0..table.m {
         let a = i + 1;
         let hope = choices::offer(a, total + bounds[a], flags[a]);

@@ -24,7 +24,7 @@ pub struct Problem<'a> {
 }
 
 // The best move from each site to each, in rows as wide as the shares: its street, and its gain.
-// kept: two arrays, for the speed of the loops over a row, which go over each as it lies; one array of moves was not tried
+// kept: two arrays, since the hot loops go over each as it lies, and take gains without streets
 #[derive(Drop)]
 pub struct BestMoves {
     pub pairs: [u16; AREA],

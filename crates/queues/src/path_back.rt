@@ -21,6 +21,7 @@ impl Queue {
             division.now s self.now.count self.now.sites result }
     {
         let mut best = 0;
+        // kept: the new form is no plainer: the place is what is sought, and it is compared with another place
         for i in 1..self.count {
             let site = self.sites[i];
             if site < self.sites[best] && table.tight(division, s, usize::from(site)) {
