@@ -2,9 +2,9 @@
 -- call begins. Each record is written in one place, `.._of`.
 -- Assumes nothing.
 use Rattle.std.specs.Prelude.{ℕ, Bool, List}
-use Rattle.survey.specs.Town.{Town, town_of}
+use Rattle.survey.specs.Town.{Town}
 use Rattle.loads.specs.Loads.{Loads}
-use Rattle.survey_file.specs.Filed.{Filed, filed_of}
+use Rattle.survey_file.specs.Filed.{Filed}
 
 -- a survey with k sites to be chosen: check and floor
 pub record SurveyInput : Type 0 where
