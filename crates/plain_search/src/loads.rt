@@ -53,7 +53,7 @@ fn is_over(town: Town, division: [u8; STREETS], load: Load, i: usize) -> bool
     requires { Small town × SizedLoad load × (i ≤ 4) }
 {
     let limits = load.limits;
-    loads::wide(limits[i]) < loads::site_sum(town, division, load, (i + 1) as u8)
+    u64::from(limits[i]) < loads::site_sum(town, division, load, (i + 1) as u8)
 }
 
 // 22 and 23: the sites by number, at each of them kilograms before litres.
