@@ -136,7 +136,7 @@ pub fn best_division(town: Town) -> Best
     let mut division = [followers[0].unwrap_or(0); STREETS];
     let first = Best { total: 0, division };
     let mut best = None;
-    for i in 0..DIVISIONS {
+    for _ in 0..DIVISIONS {
         let streets = fitting(town, shares, division);
         if streets == town.n {
             best = tried(best, town, division);

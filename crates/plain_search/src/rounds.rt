@@ -17,6 +17,14 @@ struct First {
     rank: usize,
 }
 
+// A round, counted from 0, the streets that are given away before it, and whether places alone order the streets.
+#[derive(Clone, Copy)]
+struct Round {
+    number: usize,
+    given: [bool; STREETS],
+    by_place: bool,
+}
+
 // What a site is worth in a round, and the streets that are given away once it has taken its share.
 #[derive(Clone, Copy)]
 struct Worth {
@@ -87,52 +95,31 @@ fn with_street(town: Town, site: u8, mut worth: Worth, by_place: bool) -> Worth
 }
 
 // What a site is worth in a round: the summed counted scores of the round's share of the free streets.
-fn worth_of(town: Town, site: u8, given: [bool; STREETS], round: usize, by_place: bool) -> Worth
-    requires { Small town }
+fn worth_of(town: Town, site: u8, round: Round) -> Worth
+    requires { Small town × (length round.given ≡ 8) }
     ensures { length result.given ≡ 8 }
 {
-    let share = shares::of_round(town, round).min(STREETS);
+    let share = shares::of_round(town, round.number).min(STREETS);
+    let given = round.given;
     let mut worth = Worth { total: 0, given };
     for i in 0..share {
-        worth = with_street(town, site, worth, by_place);
+        worth = with_street(town, site, worth, round.by_place);
     }
     worth
 }
 
-// The best so far once a site is looked at, which counts only if it is not chosen.
-fn tried(
-    best: Option<Site>,
-    town: Town,
-    number: usize,
-    chosen: bool,
-    given: [bool; STREETS],
-    round: usize,
-    by_place: bool,
-) -> Option<Site>
-    requires { Small town × IfSome best (λ b. b.number ≤ 5) × (number ≤ 5) }
-    ensures { IfSome result (λ b. b.number ≤ 5) }
-{
-    if chosen {
-        return best;
-    }
-    let worth = worth_of(town, number as u8, given, round, by_place).total;
-    Some(sets::better(best, Site { number, worth }))
-}
-
 // The unchosen site of greatest worth in a round, the lowest one of equals.
-fn best_site(
-    town: Town,
-    chosen: [bool; NUMBERS],
-    given: [bool; STREETS],
-    round: usize,
-    by_place: bool,
-) -> Option<Site>
-    requires { Small town }
+fn best_site(town: Town, chosen: [bool; NUMBERS], round: Round) -> Option<Site>
+    requires { Small town × (length round.given ≡ 8) }
     ensures { IfSome result (λ b. b.number ≤ 5) }
 {
     let mut best = None;
     for (i, &chosen) in chosen[1..=town.m].iter().enumerate() {
-        best = tried(best, town, i + 1, chosen, given, round, by_place);
+        if !chosen {
+            let number = i + 1;
+            let worth = worth_of(town, number as u8, round).total;
+            best = Some(sets::better(best, Site { number, worth }));
+        }
     }
     best
 }
@@ -146,10 +133,15 @@ fn sites_of(town: Town, by_place: bool) -> [u8; SITES]
     let mut chosen = [false; NUMBERS];
     let mut given = [false; STREETS];
     for (i, site) in sites[..town.k].iter_mut().enumerate() {
-        if let Some(best) = best_site(town, chosen, given, i, by_place) {
+        let round = Round {
+            number: i,
+            given,
+            by_place,
+        };
+        if let Some(best) = best_site(town, chosen, round) {
             *site = best.number as u8;
             chosen[best.number] = true;
-            given = worth_of(town, best.number as u8, given, i, by_place).given;
+            given = worth_of(town, best.number as u8, round).given;
         }
     }
     sites

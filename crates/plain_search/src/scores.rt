@@ -73,8 +73,8 @@ pub fn list_length(town: Town, s: usize) -> usize
     requires { Small town × (s ≤ 7) }
     ensures { result ≤ town.m }
 {
-    (0..town.m as u8)
-        .filter(|i| rank(town, s, *i + 1).is_some())
+    (1..=town.m as u8)
+        .filter(|site| rank(town, s, *site).is_some())
         .count()
 }
 

@@ -80,26 +80,17 @@ pub fn better(best: Option<Site>, other: Site) -> Site
     }
 }
 
-// The best so far once a site is looked at, which counts only outside the set.
-fn tried(best: Option<Site>, town: Town, set: [bool; NUMBERS], number: usize) -> Option<Site>
-    requires { Small town × IfSome best (λ b. b.number ≤ 5) × (number ≤ 5) }
-    ensures { IfSome result (λ b. b.number ≤ 5) }
-{
-    if set[number] {
-        return best;
-    }
-    let worth = set_total(town, with(set, number));
-    Some(better(best, Site { number, worth }))
-}
-
 // The site outside a set that raises its total most, the lowest one of equals.
 fn raising_site(town: Town, set: [bool; NUMBERS]) -> Option<Site>
     requires { Small town }
     ensures { IfSome result (λ b. b.number ≤ 5) }
 {
     let mut best = None;
-    for i in 0..town.m {
-        best = tried(best, town, set, i + 1);
+    for number in 1..=town.m {
+        if !set[number] {
+            let worth = set_total(town, with(set, number));
+            best = Some(better(best, Site { number, worth }));
+        }
     }
     best
 }
