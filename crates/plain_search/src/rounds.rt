@@ -114,9 +114,8 @@ fn best_site(town: Town, chosen: [bool; NUMBERS], round: Round) -> Option<Site>
     ensures { IfSome result (λ b. b.number ≤ 5) }
 {
     let mut best = None;
-    for (i, &chosen) in chosen[1..=town.m].iter().enumerate() {
-        if !chosen {
-            let number = i + 1;
+    for number in 1..=town.m {
+        if !chosen[number] {
             let worth = worth_of(town, number as u8, round).total;
             best = Some(sets::better(best, Site { number, worth }));
         }

@@ -40,9 +40,9 @@ fn best_score(town: Town, s: usize, set: [bool; NUMBERS]) -> u32
     ensures { result ≤ 16711425 }
 {
     let mut best: u32 = 0;
-    for (i, &in_set) in set[1..=town.m].iter().enumerate() {
-        if in_set {
-            best = best.max(scores::counted(town, s, (i + 1) as u8));
+    for number in 1..=town.m {
+        if set[number] {
+            best = best.max(scores::counted(town, s, number as u8));
         }
     }
     best
