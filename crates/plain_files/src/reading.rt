@@ -163,8 +163,8 @@ fn check_streets(file: &[u8], from: usize, n: usize, m: usize) -> Result<(), u8>
     requires { (from ≤ 1000) × (n ≤ 300) }
 {
     let mut at = from;
-    for i in 0..n {
-        at = street_end(file, at, m, i + 1)?;
+    for due in 1..=n {
+        at = street_end(file, at, m, due)?;
     }
     check_end(file, at)
 }
