@@ -8,7 +8,7 @@ use crate::Town;
 const WRONG_KINDS: [usize; 6] = [2, 3, 255, 256, 65536, 18446744073709551615];
 
 // The streets, the sites, the sites to choose and the kind of a plan: 0 is free, and 1 balanced.
-#[derive(Clone, Copy)]
+#[derive(Clone, Copy, Debug, PartialEq, Eq)]
 pub struct Asked {
     pub n: usize,
     pub m: usize,

@@ -4,27 +4,23 @@ ghost use Rattle.drawn_towns.specs.Small.{Small};
 use crate::{BYTES, SITES, Town, weights};
 
 // The town with one score changed.
-pub fn with_score(seed: &mut u64, town: Town) -> Town
+pub fn with_score(seed: &mut u64, mut town: Town) -> Town
     requires { Small town }
     ensures { Small result }
 {
     let at = crate::draw(seed, SITES);
-    let score = crate::draw(seed, 1003) as u16;
-    let mut other = town;
-    other.scores[at] = score;
-    other
+    town.scores[at] = crate::draw(seed, 1003) as u16;
+    town
 }
 
 // The town with one byte of its rows changed.
-pub fn with_byte(seed: &mut u64, town: Town) -> Town
+pub fn with_byte(seed: &mut u64, mut town: Town) -> Town
     requires { Small town }
     ensures { Small result }
 {
     let at = crate::draw(seed, BYTES);
-    let byte = crate::draw(seed, 8) as u8;
-    let mut other = town;
-    other.rows[at] = byte;
-    other
+    town.rows[at] = crate::draw(seed, 8) as u8;
+    town
 }
 
 // The town with one weight changed.

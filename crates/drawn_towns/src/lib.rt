@@ -1,7 +1,7 @@
 // Small towns, drawn one after the other by a generator of numbers whose state is one number, so that every run has the same towns.
 #![tactic(auto)]
 
-ghost use Rattle.std.specs.Prelude.{◌≡◌, ◌≤◌, ◌<◌, length};
+ghost use Rattle.std.specs.Prelude.{◌≡◌, ◌≤◌, ◌<◌, length, slice_range};
 ghost use Rattle.drawn_towns.specs.Small.{Small};
 
 pub mod asked;
@@ -24,7 +24,7 @@ const MODULUS: u64 = 2147483648;
 
 // A town of n streets and m sites. Its scores are the first m, its rows the first `len`, n times m, and its weights the first `weighed`, which are n
 // except where they are to be refused. Its sites are the numbers 1 to m in any order; the first k of them are its list.
-#[derive(Clone, Copy)]
+#[derive(Clone, Copy, Debug, PartialEq, Eq)]
 pub struct Town {
     pub n: usize,
     pub m: usize,
@@ -37,11 +37,51 @@ pub struct Town {
     pub sites: [u8; SITES],
 }
 
-// The first `len` bytes are the rows of a town.
-#[derive(Drop)]
-struct Rows {
-    bytes: [u8; BYTES],
-    len: usize,
+impl Town {
+    // The scores, from place 1 on.
+    pub fn scores(&self) -> &[u16]
+        requires { Small self.now }
+        ensures part { result.now ≡ slice_range self.now.scores 0 self.now.m }
+        ensures len { length result.now ≡ self.now.m }
+    {
+        &self.scores[..self.m]
+    }
+
+    // The weights that are lent, street by street.
+    pub fn weights(&self) -> &[u8]
+        requires { Small self.now }
+        ensures part { result.now ≡ slice_range self.now.weights 0 self.now.weighed }
+        ensures len { length result.now ≡ self.now.weighed }
+    {
+        &self.weights[..self.weighed]
+    }
+
+    // The rows, one behind the other.
+    pub fn rows(&self) -> &[u8]
+        requires { Small self.now }
+        ensures part { result.now ≡ slice_range self.now.rows 0 self.now.len }
+        ensures len { length result.now ≡ self.now.len }
+    {
+        &self.rows[..self.len]
+    }
+
+    // The row of street s.
+    pub fn row(&self, s: usize) -> &[u8]
+        requires { Small self.now × (s ≤ 7) }
+        ensures len { length result.now ≡ self.now.m }
+    {
+        let from = s * self.m;
+        &self.rows[from..from + self.m]
+    }
+
+    // The list of sites.
+    pub fn sites(&self) -> &[u8]
+        requires { Small self.now }
+        ensures part { result.now ≡ slice_range self.now.sites 0 self.now.k }
+        ensures len { length result.now ≡ self.now.k }
+    {
+        &self.sites[..self.k]
+    }
 }
 
 // The next number of the generator, brought below a bound.
@@ -84,10 +124,11 @@ fn draw_scores(seed: &mut u64, m: usize) -> [u16; SITES]
     let spread = spread(seed);
     let mut score = draw(seed, 3);
     let mut scores = [0u16; SITES];
-    for i in 0..m {
-        scores[m - 1 - i] = score as u16;
-        score = score + least + draw(seed, spread);
+    for entry in &mut scores[..m] {
+        *entry = score as u16;
+        score += least + draw(seed, spread);
     }
+    scores[..m].reverse();
     scores
 }
 
@@ -102,40 +143,30 @@ fn shuffle(seed: &mut u64, list: &mut [u8])
     }
 }
 
-// Zeros from a place on.
-fn cut(list: &mut [u8], from: usize) {
-    for i in from..list.len() {
-        list[i] = 0;
-    }
-}
-
 // The row that is drawn from a number: an order of the sites, cut after some places, which may be none or all.
 fn draw_row(from: u64, row: &mut [u8])
     requires { length row.old ≤ 5 }
 {
     let mut seed = from;
     shuffle(&mut seed, row);
-    let ranked = draw(&mut seed, row.len() + 3);
-    cut(row, ranked);
+    let ranked = draw(&mut seed, row.len() + 3).min(row.len());
+    row[ranked..].fill(0);
 }
 
 // The rows of n streets and m sites. Streets whose rows are drawn from the same number have the same row; where there are few such numbers,
 // there are many ties.
-fn draw_rows(seed: &mut u64, n: usize, m: usize) -> Rows
-    requires { (n ≤ 8) × (m ≤ 5) }
-    ensures { (result.len ≤ 40) × (length result.bytes ≡ 40) }
+fn draw_rows(seed: &mut u64, n: usize, m: usize) -> [u8; BYTES]
+    requires { (n ≤ 8) × (0 < m) × (m ≤ 5) }
+    ensures { length result ≡ 40 }
 {
     let first = draw(seed, 30000);
     let different = draw(seed, 20) + 1;
-    let mut bytes = [0u8; BYTES];
-    let mut len: usize = 0;
-    for s in 0..n {
-        let from = len;
-        len = from + m;
+    let mut rows = [0u8; BYTES];
+    for row in rows[..n * m].chunks_mut(m) {
         let own = first + draw(seed, different);
-        draw_row(own as u64, &mut bytes[from..len]);
+        draw_row(own as u64, row);
     }
-    Rows { bytes, len }
+    rows
 }
 
 // The sites of a town, in any order.
@@ -158,16 +189,15 @@ pub fn draw_town(seed: &mut u64) -> Town
     let rows = draw_rows(seed, n, m);
     let sites = draw_sites(seed, m);
     let weights = weights::draw_weights(seed, n);
-    let bytes = rows.bytes;
     Town {
         n,
         m,
         k: 1,
-        len: rows.len,
+        len: n * m,
         scores,
         weights,
         weighed: n,
-        rows: bytes,
+        rows,
         sites,
     }
 }
@@ -177,18 +207,5 @@ pub fn listing(town: Town, sites: [u8; SITES], k: usize) -> Town
     requires { Small town × (0 < k) × (k ≤ town.m) }
     ensures { Small result }
 {
-    let scores = town.scores;
-    let weights = town.weights;
-    let rows = town.rows;
-    Town {
-        n: town.n,
-        m: town.m,
-        k,
-        len: town.len,
-        scores,
-        weights,
-        weighed: town.weighed,
-        rows,
-        sites,
-    }
+    Town { k, sites, ..town }
 }

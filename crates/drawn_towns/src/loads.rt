@@ -11,7 +11,7 @@ use crate::{SITES, STREETS, Town};
 pub const MOST_LOAD: u32 = 1000000;
 
 // One kind of load, kilograms or litres: what each street brings, the first n, and the limit of each site, the first m.
-#[derive(Clone, Copy)]
+#[derive(Clone, Copy, Debug, PartialEq, Eq)]
 pub struct Load {
     pub streets: [u32; STREETS],
     pub limits: [u32; SITES],
@@ -19,7 +19,7 @@ pub struct Load {
 
 // Both kinds. Of the four buffers that are lent, kilograms, litres and the limits of each, the one with the number `short`, from 1 on, lacks its last
 // entry; 0 is none of them.
-#[derive(Clone, Copy)]
+#[derive(Clone, Copy, Debug, PartialEq, Eq)]
 pub struct Loads {
     pub kilograms: Load,
     pub litres: Load,
@@ -41,46 +41,27 @@ pub fn none() -> Loads
     }
 }
 
-// A load or limit as a part of a sum.
-pub fn wide(x: u32) -> u64
-    ensures { result ≤ 4294967295 }
-{
-    x as u64
-}
-
-// What a street adds to the sum of a site: its load where it goes there.
-fn added(own: u8, site: u8, load: u32) -> u64
-    ensures { result ≤ 4294967295 }
-{
-    if own == site {
-        return wide(load);
-    }
-    0
-}
-
 // What the streets of a site bring to it.
 pub fn site_sum(town: Town, division: [u8; STREETS], load: Load, site: u8) -> u64
     requires { Small town × SizedLoad load }
     ensures { result ≤ 34359738360 }
 {
-    let streets = load.streets;
     let mut sum: u64 = 0;
-    for s in 0..town.n {
-        sum = sum + added(division[s], site, streets[s]);
+    for (s, &load) in load.streets[..town.n].iter().enumerate() {
+        if division[s] == site {
+            sum += u64::from(load);
+        }
     }
     sum
 }
 
 // A load that is drawn: mostly 0 to 3, now and then the greatest one or one above it.
 fn draw_load(seed: &mut u64) -> u32 {
-    let x = crate::draw(seed, 300);
-    if x == 0 {
-        return MOST_LOAD + 1;
+    match crate::draw(seed, 300) {
+        0 => MOST_LOAD + 1,
+        1 => MOST_LOAD,
+        x => (x % 4) as u32,
     }
-    if x == 1 {
-        return MOST_LOAD;
-    }
-    (x % 4) as u32
 }
 
 // What the streets of a town bring.
@@ -88,8 +69,8 @@ fn draw_streets(seed: &mut u64, town: Town) -> [u32; STREETS]
     requires { Small town }
 {
     let mut streets = [0u32; STREETS];
-    for s in 0..town.n {
-        streets[s] = draw_load(seed);
+    for load in &mut streets[..town.n] {
+        *load = draw_load(seed);
     }
     streets
 }
@@ -102,13 +83,7 @@ fn draw_limit(seed: &mut u64, sum: u64) -> u32
         return MOST_LOAD + 1;
     }
     let above = sum + crate::draw(seed, 4) as u64;
-    if above == 0 {
-        return 0;
-    }
-    if (MOST_LOAD as u64) < above {
-        return MOST_LOAD;
-    }
-    (above - 1) as u32
+    above.saturating_sub(1).min(u64::from(MOST_LOAD)) as u32
 }
 
 // One kind of load for the streets of a town, with limits near the sums of its sites.
@@ -116,16 +91,16 @@ fn draw_kind(seed: &mut u64, town: Town, division: [u8; STREETS]) -> Load
     requires { Small town }
     ensures { SizedLoad result }
 {
-    let streets = draw_streets(seed, town);
-    let mut load = Load {
-        streets,
+    let load = Load {
+        streets: draw_streets(seed, town),
         limits: [0; SITES],
     };
-    for i in 0..town.m {
+    let mut limits = [0u32; SITES];
+    for (i, limit) in limits[..town.m].iter_mut().enumerate() {
         let sum = site_sum(town, division, load, (i + 1) as u8);
-        load.limits[i] = draw_limit(seed, sum);
+        *limit = draw_limit(seed, sum);
     }
-    load
+    Load { limits, ..load }
 }
 
 // Which buffer lacks an entry, mostly none.

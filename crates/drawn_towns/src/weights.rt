@@ -25,8 +25,8 @@ pub fn draw_weights(seed: &mut u64, n: usize) -> [u8; WEIGHTS]
 {
     let way = crate::draw(seed, WAYS);
     let mut weights = [1u8; WEIGHTS];
-    for s in 0..n {
-        weights[s] = draw_weight(seed, way);
+    for weight in &mut weights[..n] {
+        *weight = draw_weight(seed, way);
     }
     weights
 }
@@ -36,22 +36,16 @@ pub fn are_equal(town: Town) -> bool
     requires { Small town }
 {
     let first = town.weights[0];
-    for s in 0..town.n {
-        if town.weights[s] != first {
-            return false;
-        }
-    }
-    true
+    town.weights[..town.n].iter().all(|weight| *weight == first)
 }
 
 // The town with another weight for street s.
-pub fn with_weight(town: Town, s: usize, weight: u8) -> Town
+pub fn with_weight(mut town: Town, s: usize, weight: u8) -> Town
     requires { Small town × (s ≤ 7) }
     ensures { Small result }
 {
-    let mut other = town;
-    other.weights[s] = weight;
-    other
+    town.weights[s] = weight;
+    town
 }
 
 // The town with another number of weights.
@@ -59,7 +53,5 @@ pub fn with_count(town: Town, weighed: usize) -> Town
     requires { Small town × (weighed ≤ 9) }
     ensures { Small result }
 {
-    let mut other = town;
-    other.weighed = weighed;
-    other
+    Town { weighed, ..town }
 }

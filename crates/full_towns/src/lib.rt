@@ -15,21 +15,21 @@ fn rest(x: usize, m: usize) -> usize
 pub fn fill_rows(rows: &mut [u8], m: usize)
     requires { (1 ≤ m) × (m ≤ 64) }
 {
-    for i in 0..rows.len() {
-        rows[i] = (rest(rest(i / m, m) + rest(i, m), m) + 1) as u8;
+    for (i, site) in rows.iter_mut().enumerate() {
+        *site = (rest(rest(i / m, m) + rest(i, m), m) + 1) as u8;
     }
 }
 
 // Falling scores from 1,000 on, no two alike among 64.
 pub fn fill_scores(scores: &mut [u16]) {
-    for i in 0..scores.len() {
-        scores[i] = (1000 - i % 64) as u16;
+    for (i, score) in scores.iter_mut().enumerate() {
+        *score = (1000 - i % 64) as u16;
     }
 }
 
 // Falling weights from 99 on, no two alike among 64.
 pub fn fill_weights(weights: &mut [u8]) {
-    for s in 0..weights.len() {
-        weights[s] = (99 - s % 64) as u8;
+    for (s, weight) in weights.iter_mut().enumerate() {
+        *weight = (99 - s % 64) as u8;
     }
 }

@@ -3,24 +3,19 @@ ghost use Rattle.std.specs.Prelude.{◌≤◌};
 
 use crate::{filling, reading, surveys, writing};
 
-// 25: the weights of an accepted file, where an old one is to be made.
-fn lost_refusal(file: &[u8]) -> u8 {
+// What a file is refused for before the buffer is looked at: 25 is the weights of an accepted file, where an old one is to be made.
+fn check(file: &[u8], wanted: bool) -> Result<(), u8> {
+    reading::check(file)?;
+    if wanted {
+        return Ok(());
+    }
     let town = filling::taken(file).town;
-    let n = town.n;
-    let weights = town.weights;
-    surveys::lost_refusal(&weights[..n])
+    surveys::check_lost(&town.weights[..town.n])
 }
 
-// What a file is refused for before the buffer is looked at, and 0 where it is converted.
+// The number of that refusal, and 0 where the file is converted.
 pub fn refusal(file: &[u8], wanted: bool) -> u8 {
-    let x = reading::refusal(file);
-    if x != 0 {
-        return x;
-    }
-    if wanted {
-        return 0;
-    }
-    lost_refusal(file)
+    check(file, wanted).err().unwrap_or(0)
 }
 
 // The file in the form that is wanted, and its length.

@@ -7,7 +7,7 @@ use drawn_towns::{BYTES, SITES, Town, WEIGHTS};
 use plain_search::scores;
 
 // A town, the kind of its plan, and whether its file has the new form.
-#[derive(Clone, Copy)]
+#[derive(Clone, Copy, Debug, PartialEq, Eq)]
 pub struct Filed {
     pub town: Town,
     pub kind: u8,
@@ -19,10 +19,7 @@ fn within(x: usize, most: usize) -> usize
     requires { 1 ≤ most }
     ensures { (1 ≤ result) × (result ≤ most) }
 {
-    if x == 0 {
-        return 1;
-    }
-    if most < x { most } else { x }
+    x.clamp(1, most)
 }
 
 // The m scores.
@@ -31,8 +28,8 @@ fn scores_of(file: &[u8], m: usize) -> [u16; SITES]
     ensures { length result ≡ 5 }
 {
     let mut scores = [0u16; SITES];
-    for i in 0..m {
-        scores[i] = reading::number(file, 9 + 2 * i) as u16;
+    for (i, score) in scores[..m].iter_mut().enumerate() {
+        *score = reading::number(file, 9 + 2 * i) as u16;
     }
     scores
 }
@@ -47,8 +44,8 @@ fn weights_of(file: &[u8], n: usize) -> [u8; WEIGHTS]
         return weights;
     }
     let from = reading::weights_start(file) + 2;
-    for s in 0..n {
-        weights[s] = reading::byte(file, from + s) as u8;
+    for (s, weight) in weights[..n].iter_mut().enumerate() {
+        *weight = reading::byte(file, from + s) as u8;
     }
     weights
 }
@@ -63,12 +60,12 @@ fn listed(file: &[u8], at: usize, place: usize) -> u8
     reading::byte(file, at + place) as u8
 }
 
-// The row of the list whose length stands at an index, put into the rows: m bytes from a start on.
-fn fill_row(file: &[u8], at: usize, rows: &mut [u8], start: usize, m: usize)
-    requires { (at ≤ 90000) × (start ≤ 35) × (m ≤ 5) × (40 ≤ length rows.old) }
+// The row of the list whose length stands at an index.
+fn fill_row(file: &[u8], at: usize, row: &mut [u8])
+    requires { (at ≤ 90000) × (length row.old ≤ 5) }
 {
-    for i in 0..m {
-        rows[start + i] = listed(file, at, i + 1);
+    for (i, site) in row.iter_mut().enumerate() {
+        *site = listed(file, at, i + 1);
     }
 }
 
@@ -80,8 +77,9 @@ fn rows_of(file: &[u8], n: usize, m: usize) -> [u8; BYTES]
     let mut rows = [0u8; BYTES];
     let mut at = reading::streets_start(file) + 4;
     for s in 0..n {
-        fill_row(file, at, &mut rows, scores::row_start(s, m), m);
-        at = at + 5 + reading::byte(file, at);
+        let from = scores::row_start(s, m);
+        fill_row(file, at, &mut rows[from..from + m]);
+        at += 5 + reading::byte(file, at);
     }
     rows
 }
@@ -99,7 +97,7 @@ fn town_of(file: &[u8]) -> Town
         n,
         m,
         k: within(reading::byte(file, 5), m),
-        len: scores::row_start(n - 1, m) + m,
+        len: n * m,
         scores,
         weights,
         weighed: n,

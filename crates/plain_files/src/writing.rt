@@ -1,47 +1,29 @@
 // The survey file of a small town, in either form, written byte behind byte. Each function gives back the index behind what it wrote.
-ghost use Rattle.std.specs.Prelude.{◌≡◌, ◌+◌, ◌≤◌};
+ghost use Rattle.std.specs.Prelude.{◌≡◌, ◌+◌, ◌≤◌, length};
 ghost use Rattle.drawn_towns.specs.Small.{Small};
 
 use drawn_towns::Town;
 use plain_search::scores;
 
-// A byte, where there is room for it.
-fn put(file: &mut [u8], i: usize, b: u8) -> usize
-    requires { i ≤ 10000 }
-    ensures { result ≡ i + 1 }
+// Bytes, where there is room for them.
+fn put(file: &mut [u8], from: usize, bytes: &[u8]) -> usize
+    requires { (from ≤ 9000) × (length bytes.now ≤ 9) }
+    ensures { result ≡ from + length bytes.now }
 {
-    if file.len() <= i {
-        return i + 1;
+    for (i, &b) in bytes.iter().enumerate() {
+        if let Some(entry) = file.get_mut(from + i) {
+            *entry = b;
+        }
     }
-    file[i] = b;
-    i + 1
-}
-
-// Two bytes.
-fn put_two(file: &mut [u8], i: usize, first: u8, second: u8) -> usize
-    requires { i ≤ 9000 }
-    ensures { result ≡ i + 2 }
-{
-    let next = put(file, i, first);
-    put(file, next, second)
+    from + bytes.len()
 }
 
 // A number of two bytes, low byte first.
-fn put_number(file: &mut [u8], i: usize, x: u16) -> usize
-    requires { i ≤ 9000 }
-    ensures { result ≡ i + 2 }
+fn put_number(file: &mut [u8], from: usize, x: u16) -> usize
+    requires { from ≤ 9000 }
+    ensures { result ≡ from + 2 }
 {
-    put_two(file, i, (x % 256) as u8, (x / 256) as u8)
-}
-
-// The mark of a form.
-fn put_form(file: &mut [u8], new_form: bool) -> usize
-    ensures { result ≡ 2 }
-{
-    if new_form {
-        return put_two(file, 0, b'T', b'W');
-    }
-    put_two(file, 0, b'T', b'N')
+    put(file, from, &x.to_le_bytes())
 }
 
 // The town's record.
@@ -49,10 +31,9 @@ fn put_town(file: &mut [u8], town: Town, kind: u8, new_form: bool) -> usize
     requires { Small town }
     ensures { result ≡ 7 }
 {
-    put_form(file, new_form);
+    put(file, 0, if new_form { b"TW" } else { b"TN" });
     put_number(file, 2, town.n as u16);
-    put_two(file, 4, town.m as u8, town.k as u8);
-    put(file, 6, kind)
+    put(file, 4, &[town.m as u8, town.k as u8, kind])
 }
 
 // The scores' record, behind it.
@@ -60,47 +41,23 @@ fn put_scores(file: &mut [u8], town: Town) -> usize
     requires { Small town }
     ensures { result ≤ 19 }
 {
-    let mut next = put_two(file, 7, b'S', b'C');
-    for i in 0..town.m {
-        next = put_number(file, next, town.scores[i]);
-    }
-    next
-}
-
-// The weights' record.
-fn put_weights(file: &mut [u8], from: usize, town: Town) -> usize
-    requires { Small town × (from ≤ 19) }
-    ensures { result ≤ 29 }
-{
-    let mut next = put_two(file, from, b'H', b'W');
-    for s in 0..town.n {
-        next = put(file, next, town.weights[s]);
+    let mut next = put(file, 7, b"SC");
+    for &score in &town.scores[..town.m] {
+        next = put_number(file, next, score);
     }
     next
 }
 
 // The weights' record of a new file; an old one has none.
-fn put_form_weights(file: &mut [u8], from: usize, town: Town, new_form: bool) -> usize
+fn put_weights(file: &mut [u8], from: usize, town: Town, new_form: bool) -> usize
     requires { Small town × (from ≤ 19) }
     ensures { result ≤ 29 }
 {
-    if new_form {
-        return put_weights(file, from, town);
+    if !new_form {
+        return from;
     }
-    from
-}
-
-// The list of street s.
-fn put_list(file: &mut [u8], from: usize, town: Town, s: usize, size: usize) -> usize
-    requires { Small town × (from ≤ 1000) × (s ≤ 7) × (size ≤ 5) }
-    ensures { result ≤ from + 5 }
-{
-    let row = scores::row_start(s, town.m);
-    let mut next = from;
-    for i in 0..size {
-        next = put(file, next, town.rows[row + i]);
-    }
-    next
+    let weights = put(file, from, b"HW");
+    put(file, weights, &town.weights[..town.n])
 }
 
 // The record of street s.
@@ -108,11 +65,11 @@ fn put_street(file: &mut [u8], from: usize, town: Town, s: usize) -> usize
     requires { Small town × (from ≤ 900) × (s ≤ 7) }
     ensures { result ≤ from + 10 }
 {
-    let number = put_two(file, from, b'S', b'T');
+    let number = put(file, from, b"ST");
     let length = put_number(file, number, (s + 1) as u16);
     let size = scores::list_length(town, s);
-    let list = put(file, length, size as u8);
-    put_list(file, list, town, s, size)
+    let list = put(file, length, &[size as u8]);
+    put(file, list, &town.row(s)[..size])
 }
 
 // The streets' records.
@@ -134,7 +91,7 @@ pub fn write(file: &mut [u8], town: Town, kind: u8, new_form: bool) -> usize
 {
     put_town(file, town, kind, new_form);
     let weights = put_scores(file, town);
-    let streets = put_form_weights(file, weights, town, new_form);
+    let streets = put_weights(file, weights, town, new_form);
     let end = put_streets(file, streets, town);
-    put_two(file, end, b'E', b'N')
+    put(file, end, b"EN")
 }

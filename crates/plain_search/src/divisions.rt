@@ -12,10 +12,9 @@ const DIVISIONS: u32 = 390625;
 // a table by site has an entry for each number up to 5
 const NUMBERS: usize = SITES + 1;
 
-// The best balanced division so far, and its total.
-#[derive(Clone, Copy)]
+// A balanced division, and its total.
+#[derive(Clone, Copy, Debug, PartialEq, Eq)]
 pub struct Best {
-    pub found: bool,
     pub total: u32,
     pub division: [u8; STREETS],
 }
@@ -24,19 +23,16 @@ pub struct Best {
 fn is_balanced(town: Town, division: [u8; STREETS]) -> bool
     requires { Small town }
 {
-    for i in 0..town.k {
-        if scores::streets_of(division, town.n, town.sites[i]) != shares::of_round(town, i) {
-            return false;
-        }
-    }
-    true
+    town.sites[..town.k].iter().enumerate().all(|(i, site)| scores::streets_of(
+        division, town.n, *site,
+    ) == shares::of_round(town, i))
 }
 
 // The index of a site in a table by site.
 fn index(site: u8) -> usize
     ensures { result ≤ 5 }
 {
-    site as usize % NUMBERS
+    usize::from(site) % NUMBERS
 }
 
 // The shares of the list by site, 0 for a site that is not in it.
@@ -45,58 +41,46 @@ fn site_shares(town: Town) -> [usize; NUMBERS]
     ensures { length result ≡ 6 }
 {
     let mut shares = [0usize; NUMBERS];
-    for i in 0..town.k {
-        shares[index(town.sites[i])] = shares::of_round(town, i);
+    for (i, &site) in town.sites[..town.k].iter().enumerate() {
+        shares[index(site)] = shares::of_round(town, i);
     }
     shares
 }
 
 // How many streets, from the first on, come before one that is too many for its site.
-fn fitting(town: Town, shares: [usize; NUMBERS], division: [u8; STREETS]) -> usize
+fn fitting(town: Town, mut shares: [usize; NUMBERS], division: [u8; STREETS]) -> usize
     requires { Small town × (length shares ≡ 6) }
     ensures { result ≤ 8 }
 {
-    let mut left = shares;
-    for s in 0..town.n {
-        let site = index(division[s]);
-        if left[site] == 0 {
+    for (s, &site) in division[..town.n].iter().enumerate() {
+        let left = &mut shares[index(site)];
+        if *left == 0 {
             return s;
         }
-        left[site] = left[site] - 1;
+        *left -= 1;
     }
     town.n
 }
 
-// Of two sites, of which the first may be 0 for none yet, the lower one that is above a site.
-fn nearer(found: u8, other: u8, site: u8) -> u8 {
-    if other <= site {
-        return found;
-    }
-    if found == 0 {
-        return other;
-    }
-    if found < other { found } else { other }
-}
-
-// The lowest site of the list above a site, and 0 where there is none.
-fn next_site(town: Town, site: u8) -> u8
+// The lowest site of the list above a site.
+fn next_site(town: Town, site: u8) -> Option<u8>
     requires { Small town }
 {
-    let mut found: u8 = 0;
-    for i in 0..town.k {
-        found = nearer(found, town.sites[i], site);
-    }
-    found
+    town.sites[..town.k]
+        .iter()
+        .copied()
+        .filter(|other| site < *other)
+        .min()
 }
 
-// For each number up to 5 the lowest site of the list above it, and 0 where there is none.
-fn followers(town: Town) -> [u8; NUMBERS]
+// For each number up to 5 the lowest site of the list above it.
+fn followers(town: Town) -> [Option<u8>; NUMBERS]
     requires { Small town }
     ensures { length result ≡ 6 }
 {
-    let mut followers = [0u8; NUMBERS];
-    for site in 0..NUMBERS {
-        followers[site] = next_site(town, site as u8);
+    let mut followers = [None; NUMBERS];
+    for (site, follower) in followers.iter_mut().enumerate() {
+        *follower = next_site(town, site as u8);
     }
     followers
 }
@@ -105,19 +89,16 @@ fn followers(town: Town) -> [u8; NUMBERS]
 // the first comes again.
 fn next_division(
     n: usize,
-    followers: [u8; NUMBERS],
+    followers: [Option<u8>; NUMBERS],
     division: &mut [u8; STREETS],
     streets: usize,
 ) -> bool
     requires { (n ≤ 8) × (length followers ≡ 6) }
 {
-    let lowest = followers[0];
-    let mut s = n;
-    while 0 < s {
-        s = s - 1;
+    let lowest = followers[0].unwrap_or(0);
+    for s in (0..n).rev() {
         if s < streets {
-            let next = followers[index(division[s])];
-            if next != 0 {
+            if let Some(next) = followers[index(division[s])] {
                 division[s] = next;
                 return true;
             }
@@ -128,49 +109,41 @@ fn next_division(
 }
 
 // The better of the best so far and another division, which must be better to win.
-fn better(best: Best, total: u32, division: [u8; STREETS]) -> Best {
-    if best.found {
-        if total <= best.total {
-            return best;
-        }
-    }
-    Best {
-        found: true,
-        total,
-        division,
+fn better(best: Option<Best>, other: Best) -> Best {
+    match best {
+        Some(best) if other.total <= best.total => best,
+        _ => other,
     }
 }
 
 // The best so far once a division is looked at, which counts only if it is balanced.
-fn tried(best: Best, town: Town, division: [u8; STREETS]) -> Best
+fn tried(best: Option<Best>, town: Town, division: [u8; STREETS]) -> Option<Best>
     requires { Small town }
 {
-    if is_balanced(town, division) {
-        return better(best, scores::total(town, division), division);
+    if !is_balanced(town, division) {
+        return best;
     }
-    best
+    let total = scores::total(town, division);
+    Some(better(best, Best { total, division }))
 }
 
-// The first of the best divisions. The search begins where each street has the lowest site.
+// The first of the best divisions. The search begins where each street has the lowest site; that division stands for it where no division is balanced.
 pub fn best_division(town: Town) -> Best
     requires { Small town }
 {
     let shares = site_shares(town);
     let followers = followers(town);
-    let mut division = [followers[0]; STREETS];
-    let mut best = Best {
-        found: false,
-        total: 0,
-        division,
-    };
-    for i in 0..DIVISIONS {
+    let mut division = [followers[0].unwrap_or(0); STREETS];
+    let first = Best { total: 0, division };
+    let mut best = None;
+    for _ in 0..DIVISIONS {
         let streets = fitting(town, shares, division);
         if streets == town.n {
             best = tried(best, town, division);
         }
         if !next_division(town.n, followers, &mut division, streets + 1) {
-            return best;
+            break;
         }
     }
-    best
+    best.unwrap_or(first)
 }

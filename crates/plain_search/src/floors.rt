@@ -5,16 +5,6 @@ ghost use Rattle.drawn_towns.specs.Small.{Small};
 use crate::{scores, shares};
 use drawn_towns::Town;
 
-// The lesser of two numbers.
-fn lesser(x: usize, y: usize) -> usize
-    ensures { result ≤ x }
-{
-    if y < x {
-        return y;
-    }
-    x
-}
-
 // The length of the shortest list.
 fn shortest(town: Town) -> usize
     requires { Small town }
@@ -22,7 +12,7 @@ fn shortest(town: Town) -> usize
 {
     let mut least = town.m;
     for s in 0..town.n {
-        least = lesser(least, scores::list_length(town, s));
+        least = least.min(scores::list_length(town, s));
     }
     least
 }
@@ -34,13 +24,7 @@ pub fn place(m: usize, k: usize, i: usize) -> usize
     if k <= i {
         return 0;
     }
-    let mut count: usize = 0;
-    let mut sites: usize = i;
-    for turn in 0..m {
-        count = scores::add_if(count, sites < m);
-        sites = sites + (k - i);
-    }
-    i + count
+    i + (i..m).step_by(k - i).count()
 }
 
 // The score at a place, and 0 where the place is none of the first t.
@@ -48,13 +32,10 @@ fn score_up_to(town: Town, place: usize, t: usize) -> u32
     requires { Small town × (t ≤ town.m) }
     ensures { result ≤ 65535 }
 {
-    if place == 0 {
+    if place == 0 || t < place {
         return 0;
     }
-    if t < place {
-        return 0;
-    }
-    scores::wide(town.scores[place - 1])
+    u32::from(town.scores[place - 1])
 }
 
 // What the streets of round i give at the least, where t is the length of the shortest list.
@@ -66,26 +47,13 @@ fn added(town: Town, t: usize, i: usize) -> u32
     shares::of_round(town, i) as u32 * score
 }
 
-// The lesser of two weights.
-fn lighter(x: u32, y: u32) -> u32
-    ensures { result ≤ x }
-{
-    if y < x {
-        return y;
-    }
-    x
-}
-
 // The smallest weight.
 fn least_weight(town: Town) -> u32
     requires { Small town }
     ensures { result ≤ 255 }
 {
-    let mut least: u32 = 255;
-    for s in 0..town.n {
-        least = lighter(least, scores::weight(town, s));
-    }
-    least
+    let least = town.weights[..town.n].iter().copied().min();
+    u32::from(least.unwrap_or(255))
 }
 
 // What the rounds give at the least, each with its own share, where every weight is 1.
@@ -96,7 +64,7 @@ fn plain_floor(town: Town) -> u32
     let t = shortest(town);
     let mut sum: u32 = 0;
     for i in 0..town.k {
-        sum = sum + added(town, t, i);
+        sum += added(town, t, i);
     }
     sum
 }

@@ -11,51 +11,42 @@ use drawn_towns::{STREETS, Town};
 fn is_out_of_range(town: Town, division: [u8; STREETS], low: u8) -> bool
     requires { Small town }
 {
-    for s in 0..town.n {
-        if division[s] < low {
-            return true;
-        }
-        if town.m < division[s] as usize {
-            return true;
-        }
-    }
-    false
+    division[..town.n]
+        .iter()
+        .any(|site| *site < low || town.m < usize::from(*site))
 }
 
 // How many sites have from `least` to `most` streets.
 fn sites_with(town: Town, division: [u8; STREETS], least: usize, most: usize) -> usize
     requires { Small town }
 {
-    let mut count: usize = 0;
-    for i in 0..town.m {
-        let streets = scores::streets_of(division, town.n, (i + 1) as u8);
-        count = scores::add_if(count, asked::is_between(streets, least, most));
-    }
-    count
+    (1..=town.m as u8)
+        .map(|site| scores::streets_of(division, town.n, site))
+        .filter(|streets| (least..=most).contains(streets))
+        .count()
 }
 
 // 19: the claimed total is another one.
-fn claim_refusal(town: Town, division: [u8; STREETS], claimed: u32) -> u8
+fn check_claim(town: Town, division: [u8; STREETS], claimed: u32) -> Result<(), u8>
     requires { Small town }
 {
-    if scores::total(town, division) == claimed {
-        0
-    } else {
-        19
+    if scores::total(town, division) != claimed {
+        return Err(19);
     }
+    Ok(())
 }
 
 // 17 and 18 of a free plan: a street may have site 0, and at most k sites are used.
-fn free_sites(town: Town, division: [u8; STREETS]) -> u8
+fn check_free(town: Town, division: [u8; STREETS]) -> Result<(), u8>
     requires { Small town }
 {
     if is_out_of_range(town, division, 0) {
-        return 17;
+        return Err(17);
     }
     if town.k < sites_with(town, division, 1, STREETS) {
-        return 18;
+        return Err(18);
     }
-    0
+    Ok(())
 }
 
 // Whether exactly r sites have q + 1 streets, and exactly k - r have q.
@@ -64,58 +55,48 @@ fn is_shared(town: Town, division: [u8; STREETS]) -> bool
 {
     let q = shares::least(town);
     let r = shares::larger(town);
-    if sites_with(town, division, q + 1, q + 1) != r {
-        return false;
-    }
-    sites_with(town, division, q, q) == town.k - r
+    sites_with(town, division, q + 1, q + 1) == r && sites_with(town, division, q, q) == town.k - r
 }
 
 // 17 and 18 of a balanced plan: every street has a site, and the sites have the shares.
-fn balanced_sites(town: Town, division: [u8; STREETS]) -> u8
+fn check_balanced(town: Town, division: [u8; STREETS]) -> Result<(), u8>
     requires { Small town }
 {
     if is_out_of_range(town, division, 1) {
-        return 17;
+        return Err(17);
     }
-    if is_shared(town, division) { 0 } else { 18 }
+    if !is_shared(town, division) {
+        return Err(18);
+    }
+    Ok(())
 }
 
-// What a plan of one kind is refused for in its sites.
-fn sites_refusal(town: Town, kind: usize, division: [u8; STREETS]) -> u8
-    requires { Small town }
-{
-    if kind == 0 {
-        return free_sites(town, division);
-    }
-    balanced_sites(town, division)
-}
-
-// What a plan is refused for before its sites are looked at: in what it is asked for, and in its loads' own numbers.
-fn given_refusal(town: Town, asked: Asked, loads: Loads) -> u8
+// A plan with its loads, asked for with the town's own sizes: what it is asked for, the loads' own numbers, its sites, their limits, and its total.
+fn check(
+    town: Town,
+    asked: Asked,
+    division: [u8; STREETS],
+    claimed: u32,
+    loads: Loads,
+) -> Result<(), u8>
     requires { Small town × Sized loads }
 {
-    let x = asked::refusal(asked);
-    if x != 0 {
-        return x;
+    asked::check(asked)?;
+    loads::check_numbers(town, loads)?;
+    if asked.kind == 0 {
+        check_free(town, division)?;
+    } else {
+        check_balanced(town, division)?;
     }
-    loads::numbers_refusal(town, loads)
+    loads::check_limits(town, division, loads)?;
+    check_claim(town, division, claimed)
 }
 
-// A plan with its loads, asked for with the town's own sizes.
+// The number of its refusal, and 0 where it is right.
 pub fn refusal(town: Town, asked: Asked, division: [u8; STREETS], claimed: u32, loads: Loads) -> u8
     requires { Small town × Sized loads }
 {
-    let x = given_refusal(town, asked, loads);
-    if x != 0 {
-        return x;
-    }
-    let x = sites_refusal(town, asked.kind, division);
-    if x != 0 {
-        return x;
-    }
-    let x = loads::limits_refusal(town, division, loads);
-    if x != 0 {
-        return x;
-    }
-    claim_refusal(town, division, claimed)
+    check(town, asked, division, claimed, loads)
+        .err()
+        .unwrap_or(0)
 }

@@ -1,5 +1,5 @@
-// Places, scores, counted scores and totals of a small town.
-ghost use Rattle.std.specs.Prelude.{◌+◌, ◌≤◌};
+// Ranks, scores, counted scores and totals of a small town.
+ghost use Rattle.std.specs.Prelude.{◌≤◌, ◌<◌, IfSome};
 ghost use Rattle.drawn_towns.specs.Small.{Small};
 
 use drawn_towns::{STREETS, Town};
@@ -12,46 +12,32 @@ pub fn row_start(s: usize, m: usize) -> usize
     s * m
 }
 
-// The place that street s gives a site, and 0 where it has not ranked the site.
-pub fn place(town: Town, s: usize, site: u8) -> usize
+// How many sites street s ranks before a site, if it has ranked that.
+pub fn rank(town: Town, s: usize, site: u8) -> Option<usize>
     requires { Small town × (s ≤ 7) }
-    ensures { result ≤ 5 }
+    ensures { IfSome result (λ r. r < town.m) }
 {
     if site == 0 {
-        return 0;
+        return None;
     }
-    let from = row_start(s, town.m);
-    for i in 0..town.m {
-        if town.rows[from + i] == site {
-            return i + 1;
-        }
-    }
-    0
+    town.row(s).iter().position(|ranked| *ranked == site)
 }
 
 // The score that street s gives a site: the one at its place, and 0 where it is not ranked.
 pub fn score(town: Town, s: usize, site: u8) -> u16
     requires { Small town × (s ≤ 7) }
 {
-    let found = place(town, s, site);
-    if found == 0 {
-        return 0;
+    match rank(town, s, site) {
+        Some(before) => town.scores[before],
+        None => 0,
     }
-    town.scores[found - 1]
 }
 
 // A score as a part of a total.
 pub fn wide(score: u16) -> u32
     ensures { result ≤ 65535 }
 {
-    score as u32
-}
-
-// A weight as a factor of a total.
-fn wide_weight(weight: u8) -> u32
-    ensures { result ≤ 255 }
-{
-    weight as u32
+    u32::from(score)
 }
 
 // The weight of street s as a factor of a total.
@@ -59,7 +45,7 @@ pub fn weight(town: Town, s: usize) -> u32
     requires { Small town × (s ≤ 7) }
     ensures { result ≤ 255 }
 {
-    wide_weight(town.weights[s])
+    u32::from(town.weights[s])
 }
 
 // The counted score that street s gives a site: its score times the street's weight.
@@ -76,21 +62,10 @@ pub fn total(town: Town, division: [u8; STREETS]) -> u32
     ensures { result ≤ 133691400 }
 {
     let mut sum: u32 = 0;
-    for s in 0..town.n {
-        sum = sum + counted(town, s, division[s]);
+    for (s, &site) in division[..town.n].iter().enumerate() {
+        sum += counted(town, s, site);
     }
     sum
-}
-
-// A count with one more, if there is one.
-pub fn add_if(count: usize, more: bool) -> usize
-    requires { count ≤ 1000 }
-    ensures { result ≤ count + 1 }
-{
-    if more {
-        return count + 1;
-    }
-    count
 }
 
 // How many sites street s has ranked.
@@ -98,20 +73,14 @@ pub fn list_length(town: Town, s: usize) -> usize
     requires { Small town × (s ≤ 7) }
     ensures { result ≤ town.m }
 {
-    let mut length: usize = 0;
-    for i in 0..town.m {
-        length = add_if(length, place(town, s, (i + 1) as u8) != 0);
-    }
-    length
+    (1..=town.m as u8)
+        .filter(|site| rank(town, s, *site).is_some())
+        .count()
 }
 
 // How many of the first n streets a division gives a site.
 pub fn streets_of(division: [u8; STREETS], n: usize, site: u8) -> usize
     requires { n ≤ 8 }
 {
-    let mut count: usize = 0;
-    for s in 0..n {
-        count = add_if(count, division[s] == site);
-    }
-    count
+    division[..n].iter().filter(|own| **own == site).count()
 }

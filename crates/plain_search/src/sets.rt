@@ -1,5 +1,5 @@
 // The free plan of a small town: the totals of sets of sites, the greedy rounds that go by these totals alone, and the best set of k sites.
-ghost use Rattle.std.specs.Prelude.{◌≡◌, ◌≤◌, length};
+ghost use Rattle.std.specs.Prelude.{◌≡◌, ◌≤◌, length, IfSome};
 ghost use Rattle.drawn_towns.specs.Small.{Small};
 
 use crate::scores;
@@ -14,14 +14,14 @@ const SETS: usize = 64;
 pub const UNTOUCHED: u8 = 255;
 
 // A set of sites, and the order in which they were chosen.
-#[derive(Clone, Copy)]
+#[derive(Clone, Copy, Debug, PartialEq, Eq)]
 pub struct Choice {
     pub sites: [u8; SITES],
     pub set: [bool; NUMBERS],
 }
 
-// A site, 0 for none yet, and what it is worth: the total with it.
-#[derive(Clone, Copy)]
+// A site, and what it is worth: the total with it.
+#[derive(Clone, Copy, Debug, PartialEq, Eq)]
 pub struct Site {
     pub number: usize,
     pub worth: u32,
@@ -34,29 +34,16 @@ struct Factors {
     less: u64,
 }
 
-// The best counted score so far once a site is looked at, which counts only in the set.
-fn with_site(best: u32, town: Town, s: usize, site: u8, in_set: bool) -> u32
-    requires { Small town × (s ≤ 7) × (best ≤ 16711425) }
-    ensures { result ≤ 16711425 }
-{
-    if !in_set {
-        return best;
-    }
-    let score = scores::counted(town, s, site);
-    if best < score {
-        return score;
-    }
-    best
-}
-
 // The best counted score that a site of a set has with street s.
 fn best_score(town: Town, s: usize, set: [bool; NUMBERS]) -> u32
     requires { Small town × (s ≤ 7) }
     ensures { result ≤ 16711425 }
 {
     let mut best: u32 = 0;
-    for i in 0..town.m {
-        best = with_site(best, town, s, (i + 1) as u8, set[i + 1]);
+    for number in 1..=town.m {
+        if set[number] {
+            best = best.max(scores::counted(town, s, number as u8));
+        }
     }
     best
 }
@@ -68,58 +55,44 @@ pub fn set_total(town: Town, set: [bool; NUMBERS]) -> u32
 {
     let mut sum: u32 = 0;
     for s in 0..town.n {
-        sum = sum + best_score(town, s, set);
+        sum += best_score(town, s, set);
     }
     sum
 }
 
 // A set with one site more.
-fn with(set: [bool; NUMBERS], site: usize) -> [bool; NUMBERS]
+fn with(mut set: [bool; NUMBERS], site: usize) -> [bool; NUMBERS]
     requires { site ≤ 5 }
     ensures { length result ≡ 6 }
 {
-    let mut more = set;
-    more[site] = true;
-    more
+    set[site] = true;
+    set
 }
 
 // The better of the best site so far and another one, which must be better to win.
-pub fn better(best: Site, number: usize, worth: u32) -> Site
-    requires { (best.number ≤ 5) × (number ≤ 5) }
+pub fn better(best: Option<Site>, other: Site) -> Site
+    requires { IfSome best (λ b. b.number ≤ 5) × (other.number ≤ 5) }
     ensures { result.number ≤ 5 }
 {
-    if best.number != 0 {
-        if worth <= best.worth {
-            return best;
-        }
+    match best {
+        Some(best) if other.worth <= best.worth => best,
+        _ => other,
     }
-    Site { number, worth }
-}
-
-// The best so far once a site is looked at, which counts only outside the set.
-fn tried(best: Site, town: Town, set: [bool; NUMBERS], number: usize) -> Site
-    requires { Small town × (best.number ≤ 5) × (number ≤ 5) }
-    ensures { result.number ≤ 5 }
-{
-    if set[number] {
-        return best;
-    }
-    better(best, number, set_total(town, with(set, number)))
 }
 
 // The site outside a set that raises its total most, the lowest one of equals.
-fn raising_site(town: Town, set: [bool; NUMBERS]) -> usize
+fn raising_site(town: Town, set: [bool; NUMBERS]) -> Option<Site>
     requires { Small town }
-    ensures { result ≤ 5 }
+    ensures { IfSome result (λ b. b.number ≤ 5) }
 {
-    let mut best = Site {
-        number: 0,
-        worth: 0,
-    };
-    for i in 0..town.m {
-        best = tried(best, town, set, i + 1);
+    let mut best = None;
+    for number in 1..=town.m {
+        if !set[number] {
+            let worth = set_total(town, with(set, number));
+            best = Some(better(best, Site { number, worth }));
+        }
     }
-    best.number
+    best
 }
 
 // The k sites of the greedy rounds.
@@ -129,10 +102,11 @@ pub fn greedy(town: Town) -> Choice
 {
     let mut sites = [UNTOUCHED; SITES];
     let mut set = [false; NUMBERS];
-    for i in 0..town.k {
-        let site = raising_site(town, set);
-        sites[i] = site as u8;
-        set[site] = true;
+    for site in &mut sites[..town.k] {
+        if let Some(raising) = raising_site(town, set) {
+            *site = raising.number as u8;
+            set[raising.number] = true;
+        }
     }
     Choice { sites, set }
 }
@@ -143,9 +117,8 @@ pub fn listed(town: Town) -> [bool; NUMBERS]
     ensures { length result ≡ 6 }
 {
     let mut set = [false; NUMBERS];
-    for i in 0..town.k {
-        let site = town.sites[i] as usize % NUMBERS;
-        set[site] = true;
+    for &site in &town.sites[..town.k] {
+        set[usize::from(site) % NUMBERS] = true;
     }
     set
 }
@@ -154,26 +127,13 @@ pub fn listed(town: Town) -> [bool; NUMBERS]
 fn goes_to(town: Town, s: usize, set: [bool; NUMBERS]) -> u8
     requires { Small town × (s ≤ 7) }
 {
-    let mut found: u8 = 0;
-    let mut best: usize = NUMBERS;
-    for i in 0..town.m {
-        if set[i + 1] {
-            let place = scores::place(town, s, (i + 1) as u8);
-            if is_before(place, best) {
-                found = (i + 1) as u8;
-                best = place;
-            }
+    for &site in town.row(s) {
+        let number = usize::from(site);
+        if (1..=town.m).contains(&number) && set[number] {
+            return site;
         }
     }
-    found
-}
-
-// Whether a site is ranked, and before another place.
-fn is_before(place: usize, best: usize) -> bool {
-    if place == 0 {
-        return false;
-    }
-    place < best
+    0
 }
 
 // Where each street goes.
@@ -181,8 +141,8 @@ pub fn division(town: Town, set: [bool; NUMBERS]) -> [u8; STREETS]
     requires { Small town }
 {
     let mut division = [UNTOUCHED; STREETS];
-    for s in 0..town.n {
-        division[s] = goes_to(town, s, set);
+    for (s, site) in division[..town.n].iter_mut().enumerate() {
+        *site = goes_to(town, s, set);
     }
     division
 }
@@ -191,9 +151,9 @@ pub fn division(town: Town, set: [bool; NUMBERS]) -> [u8; STREETS]
 fn set_of(number: usize) -> [bool; NUMBERS] {
     let mut set = [false; NUMBERS];
     let mut rest = number;
-    for i in 0..NUMBERS {
-        set[i] = rest % 2 == 1;
-        rest = rest / 2;
+    for flag in &mut set {
+        *flag = rest % 2 == 1;
+        rest /= 2;
     }
     set
 }
@@ -202,33 +162,7 @@ fn set_of(number: usize) -> [bool; NUMBERS] {
 fn size_of(town: Town, set: [bool; NUMBERS]) -> usize
     requires { Small town }
 {
-    let mut size: usize = 0;
-    for i in 0..town.m {
-        size = scores::add_if(size, set[i + 1]);
-    }
-    size
-}
-
-// The total of a set, if it has k sites, and else 0.
-fn total_of_choice(town: Town, set: [bool; NUMBERS]) -> u32
-    requires { Small town }
-    ensures { result ≤ 133691400 }
-{
-    if size_of(town, set) != town.k {
-        return 0;
-    }
-    set_total(town, set)
-}
-
-// The greater of two totals.
-fn greater(x: u32, y: u32) -> u32
-    requires { (x ≤ 133691400) × (y ≤ 133691400) }
-    ensures { result ≤ 133691400 }
-{
-    if x < y {
-        return y;
-    }
-    x
+    set[1..=town.m].iter().filter(|in_set| **in_set).count()
 }
 
 // The greatest total that any k sites of 1 to m have.
@@ -236,11 +170,17 @@ pub fn best_total(town: Town) -> u32
     requires { Small town }
     ensures { result ≤ 133691400 }
 {
-    let mut best: u32 = 0;
-    for number in 0..SETS {
-        best = greater(best, total_of_choice(town, set_of(number)));
-    }
-    best
+    (0..SETS)
+        .map(set_of)
+        .filter(|set| size_of(town, *set) == town.k)
+        .map(
+            |set|
+                requires { Small town }
+                ensures { result ≤ 133691400 }
+            { set_total(town, set) },
+        )
+        .max()
+        .unwrap_or(0)
 }
 
 // The factors for k sites.
@@ -264,7 +204,7 @@ fn times(factor: u64, total: u32) -> u64
     requires { (factor ≤ 3125) × (total ≤ 133691400) }
     ensures { result ≤ 417785625000 }
 {
-    factor * total as u64
+    factor * u64::from(total)
 }
 
 // Whether a total of k sites is as near to the best one as the bound of the free plan has it.

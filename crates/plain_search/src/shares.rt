@@ -2,7 +2,6 @@
 ghost use Rattle.std.specs.Prelude.{◌≤◌};
 ghost use Rattle.drawn_towns.specs.Small.{Small};
 
-use crate::scores;
 use drawn_towns::Town;
 
 // q, the streets that every round has at the least.
@@ -26,5 +25,5 @@ pub fn of_round(town: Town, i: usize) -> usize
     requires { Small town }
     ensures { result ≤ 9 }
 {
-    scores::add_if(least(town), i < larger(town))
+    least(town) + usize::from(i < larger(town))
 }

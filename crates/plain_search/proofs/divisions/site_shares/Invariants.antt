@@ -1,7 +1,6 @@
-use Prim.Native.Nat.{◌≤◌}
 use mathlib.Core.Path.{◌≡◌}
 use lib.ListN.{length}
 use Rattle.plain_search.proofs.divisions.site_shares.Given as goal
 
 abbrev pub invariant-loop-i : goal.invariant-loop-i
-invariant-loop-i l = (l.i ≤ l.i-end) × (l.i-end ≡ l.town.k) × (length l.shares ≡ 6)
+invariant-loop-i l = length l.shares ≡ 6

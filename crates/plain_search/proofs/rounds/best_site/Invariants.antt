@@ -1,6 +1,6 @@
 use Prim.Native.Nat.{◌≤◌}
-use mathlib.Core.Path.{◌≡◌}
+use Rattle.std.specs.Prelude.{IfSome}
 use Rattle.plain_search.proofs.rounds.best_site.Given as goal
 
-abbrev pub invariant-loop-i : goal.invariant-loop-i
-invariant-loop-i l = (l.i ≤ l.i-end) × (l.i-end ≡ l.town.m) × (l.best.number ≤ 5)
+abbrev pub invariant-loop-number : goal.invariant-loop-number
+invariant-loop-number l = IfSome l.best (λ b. b.number ≤ 5)

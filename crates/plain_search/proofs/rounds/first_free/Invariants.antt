@@ -1,6 +1,6 @@
 use Prim.Native.Nat.{◌≤◌}
-use mathlib.Core.Path.{◌≡◌}
+use Rattle.std.specs.Prelude.{IfSome}
 use Rattle.plain_search.proofs.rounds.first_free.Given as goal
 
 abbrev pub invariant-loop-s : goal.invariant-loop-s
-invariant-loop-s l = (l.s ≤ l.s-end) × (l.s-end ≡ l.town.n) × (l.first.street ≤ 8)
+invariant-loop-s l = IfSome l.first (λ f. f.street ≤ 7)

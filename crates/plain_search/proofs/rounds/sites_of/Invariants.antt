@@ -1,7 +1,6 @@
-use Prim.Native.Nat.{◌≤◌}
 use mathlib.Core.Path.{◌≡◌}
 use lib.ListN.{length}
 use Rattle.plain_search.proofs.rounds.sites_of.Given as goal
 
 abbrev pub invariant-loop-i : goal.invariant-loop-i
-invariant-loop-i l = (l.i ≤ l.i-end) × (l.i-end ≡ l.town.k) × (length l.sites ≡ 5) × (length l.chosen ≡ 6) × (length l.given ≡ 8)
+invariant-loop-i l = (length l.chosen ≡ 6) × (length l.given ≡ 8)

@@ -1,6 +1,5 @@
 use Prim.Native.Nat.{◌≤◌, ◌*◌}
-use mathlib.Core.Path.{◌≡◌}
 use Rattle.plain_search.proofs.scores.total.Given as goal
 
 abbrev pub invariant-loop-s : goal.invariant-loop-s
-invariant-loop-s l = (l.s ≤ l.s-end) × (l.s-end ≡ l.town.n) × (l.sum ≤ 16711425 * l.s)
+invariant-loop-s l = l.sum ≤ 16711425 * l.s

@@ -1,6 +1,5 @@
 use Prim.Native.Nat.{◌≤◌}
-use mathlib.Core.Path.{◌≡◌}
 use Rattle.plain_search.proofs.sets.best_score.Given as goal
 
-abbrev pub invariant-loop-i : goal.invariant-loop-i
-invariant-loop-i l = (l.i ≤ l.i-end) × (l.i-end ≡ l.town.m) × (l.best ≤ 16711425)
+abbrev pub invariant-loop-number : goal.invariant-loop-number
+invariant-loop-number l = l.best ≤ 16711425

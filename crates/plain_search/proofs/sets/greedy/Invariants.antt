@@ -1,7 +1,6 @@
-use Prim.Native.Nat.{◌≤◌}
 use mathlib.Core.Path.{◌≡◌}
 use lib.ListN.{length}
 use Rattle.plain_search.proofs.sets.greedy.Given as goal
 
-abbrev pub invariant-loop-i : goal.invariant-loop-i
-invariant-loop-i l = (l.i ≤ l.i-end) × (l.i-end ≡ l.town.k) × (length l.sites ≡ 5) × (length l.set ≡ 6)
+abbrev pub invariant-loop-site : goal.invariant-loop-site
+invariant-loop-site l = length l.set ≡ 6

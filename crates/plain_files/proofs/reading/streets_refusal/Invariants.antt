@@ -1,5 +1,0 @@
-use Prim.Native.Nat.{◌≤◌, ◌+◌, ◌*◌}
-use Rattle.plain_files.proofs.reading.streets_refusal.Given as goal
-
-abbrev pub invariant-loop-i : goal.invariant-loop-i
-invariant-loop-i l = (l.i ≤ l.n) × (l.at ≤ 1000 + 260 * l.i)

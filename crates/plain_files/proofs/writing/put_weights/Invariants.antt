@@ -1,7 +1,0 @@
-use Prim.Native.Nat.{◌≤◌, ◌+◌}
-use mathlib.Core.Path.{◌≡◌}
-use lib.ListN.{length}
-use Rattle.plain_files.proofs.writing.put_weights.Given as goal
-
-abbrev pub invariant-loop-s : goal.invariant-loop-s
-invariant-loop-s l = (l.s ≤ l.s-end) × (l.s-end ≡ l.town.n) × (l.next ≤ 21 + l.s) × (length l.file ≡ length l.initial.file)

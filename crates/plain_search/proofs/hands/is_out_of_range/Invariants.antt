@@ -1,6 +1,0 @@
-use Prim.Native.Nat.{◌≤◌}
-use mathlib.Core.Path.{◌≡◌}
-use Rattle.plain_search.proofs.hands.is_out_of_range.Given as goal
-
-abbrev pub invariant-loop-s : goal.invariant-loop-s
-invariant-loop-s l = (l.s ≤ l.s-end) × (l.s-end ≡ l.town.n)
