@@ -1,20 +1,8 @@
 // Cases of files that are written, read and converted.
+use crate::input::{BYTES, SCORES, Survey, WEIGHTS};
 use crate::{input, say};
-use planner::{Refusal, Sizes, Town};
+use planner::{Refusal, Sizes};
 use std::io::{self, Read, Write};
-
-// A file that is written, and its buffer.
-fn written(
-    out: &mut impl Write,
-    town: Town<'_>,
-    k: usize,
-    kind: usize,
-    new_form: bool,
-    file: &mut [u8],
-) -> io::Result<()> {
-    say::answer(out, planner::write_file(town, k, kind, new_form, file))?;
-    say::buffer(out, b" file", file)
-}
 
 // The form of a file: 0 for the old one, any other number for the new one.
 fn form(reader: &mut impl Read) -> io::Result<bool> {
@@ -36,34 +24,12 @@ pub fn write_case(reader: &mut impl Read, out: &mut impl Write, weighed: bool) -
     let k = input::number(reader)?;
     let kind = input::number(reader)?;
     let new_form = form_of(reader, weighed)?;
-    let s = input::scores_list(reader)?;
-    let w = input::weights_of(reader, weighed, n)?;
-    let r = input::bytes_list(reader)?;
-    let f = input::bytes_list(reader)?;
-    let scores = s.buffer;
-    let s_len = s.len;
-    let weights = w.buffer;
-    let w_len = w.len;
-    let rows = r.buffer;
-    let r_len = r.len;
-    let mut file = f.buffer;
-    let f_len = f.len;
-    let town = Town {
-        n,
-        m,
-        scores: &scores[..s_len],
-        weights: &weights[..w_len],
-        rows: &rows[..r_len],
-    };
-    written(out, town, k, kind, new_form, &mut file[..f_len])
-}
-
-// The form that was read.
-fn say_form(out: &mut impl Write, new_form: bool) -> io::Result<()> {
-    if new_form {
-        return say::number(out, b" form ", 1);
-    }
-    say::number(out, b" form ", 0)
+    let mut survey = Survey::empty();
+    let town = survey.read(reader, n, m, weighed)?;
+    let mut file = [0; BYTES];
+    let file = input::list(reader, &mut file)?;
+    say::answer(out, planner::write_file(town, k, kind, new_form, file))?;
+    say::buffer(out, b" file", file)
 }
 
 // The reader's answer.
@@ -78,41 +44,34 @@ fn say_read(out: &mut impl Write, answer: Result<Sizes, Refusal>, weighed: bool)
                 new_form,
             },
         ) => {
-            say::number(out, b" streets ", n as u64)?;
-            say::number(out, b" sites ", m as u64)?;
-            say::number(out, b" chosen ", k as u64)?;
-            say::number(out, b" kind ", kind as u64)?;
+            write!(out, " streets {n} sites {m} chosen {k} kind {kind}")?;
             if weighed {
-                say_form(out, new_form)?;
+                write!(out, " form {}", u8::from(new_form))?;
             }
             Ok(())
         }
-        Err(refusal) => say::number(out, b" refused ", u64::from(refusal.number())),
+        Err(refusal) => write!(out, " {refusal}"),
     }
 }
 
 // The first bytes of a list, at most eight.
 fn front(bytes: &[u8]) -> &[u8] {
-    if bytes.len() < 8 {
-        return bytes;
-    }
-    &bytes[..8]
+    &bytes[..bytes.len().min(8)]
 }
 
-// A file that is read, and the first bytes of its rows; in a case with weights the first weights, too.
-fn read_in(
-    out: &mut impl Write,
-    file: &[u8],
-    rows: &mut [u8],
-    scores: &mut [u16],
-    weights: &mut [u8],
-    weighed: bool,
-) -> io::Result<()> {
-    say_read(
-        out,
-        planner::read_file(file, scores, weights, rows),
-        weighed,
-    )?;
+// Command 11: the file; the rows' buffer; the scores' buffer; with weights, their buffer, which else has the right length and is not printed. The first
+// bytes of the rows are printed, and in a case with weights the first weights.
+pub fn read_case(reader: &mut impl Read, out: &mut impl Write, weighed: bool) -> io::Result<()> {
+    let mut file = [0; BYTES];
+    let file = input::list(reader, &mut file)?;
+    let mut rows = [0; BYTES];
+    let rows = input::list(reader, &mut rows)?;
+    let mut scores = [0; SCORES];
+    let scores = input::list(reader, &mut scores)?;
+    let mut weights = [0; WEIGHTS];
+    let weights = input::weights_of(reader, weighed, 400, &mut weights)?;
+    let answer = planner::read_file(file, scores, weights, rows);
+    say_read(out, answer, weighed)?;
     say::buffer(out, b" rows", front(rows))?;
     if weighed {
         say::buffer(out, b" weights", front(weights))?;
@@ -120,44 +79,13 @@ fn read_in(
     Ok(())
 }
 
-// Command 11: the file; the rows' buffer; the scores' buffer; with weights, their buffer, which else has the right length and is not printed.
-pub fn read_case(reader: &mut impl Read, out: &mut impl Write, weighed: bool) -> io::Result<()> {
-    let f = input::bytes_list(reader)?;
-    let r = input::bytes_list(reader)?;
-    let s = input::scores_list(reader)?;
-    let w = input::weights_of(reader, weighed, 400)?;
-    let file = f.buffer;
-    let f_len = f.len;
-    let mut rows = r.buffer;
-    let r_len = r.len;
-    let mut scores = s.buffer;
-    let s_len = s.len;
-    let mut weights = w.buffer;
-    let w_len = w.len;
-    read_in(
-        out,
-        &file[..f_len],
-        &mut rows[..r_len],
-        &mut scores[..s_len],
-        &mut weights[..w_len],
-        weighed,
-    )
-}
-
-// A file that is converted, and its buffer.
-fn converted(out: &mut impl Write, file: &[u8], wanted: bool, buffer: &mut [u8]) -> io::Result<()> {
-    say::answer(out, planner::convert_file(file, wanted, buffer))?;
-    say::buffer(out, b" file", buffer)
-}
-
 // Command 18: the file; the form that is wanted; the buffer.
 pub fn convert_case(reader: &mut impl Read, out: &mut impl Write) -> io::Result<()> {
-    let f = input::bytes_list(reader)?;
+    let mut file = [0; BYTES];
+    let file = input::list(reader, &mut file)?;
     let wanted = form(reader)?;
-    let b = input::bytes_list(reader)?;
-    let file = f.buffer;
-    let f_len = f.len;
-    let mut buffer = b.buffer;
-    let b_len = b.len;
-    converted(out, &file[..f_len], wanted, &mut buffer[..b_len])
+    let mut buffer = [0; BYTES];
+    let buffer = input::list(reader, &mut buffer)?;
+    say::answer(out, planner::convert_file(file, wanted, buffer))?;
+    say::buffer(out, b" file", buffer)
 }

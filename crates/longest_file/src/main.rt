@@ -2,8 +2,6 @@
 // writes it again, converts it to the other form and back, and compares.
 #![tactic(auto)]
 
-ghost use Rattle.std.specs.Prelude.{◌≤◌};
-
 use planner::{Refusal, Sizes, Town};
 use std::io::{self, Write};
 
@@ -12,54 +10,23 @@ const OLD: usize = 27739;
 
 const NEW: usize = 28141;
 
-// 1 where two bytes differ.
-fn unlike(a: u8, b: u8) -> usize
-    ensures { result ≤ 1 }
-{
-    if a != b {
-        return 1;
-    }
-    0
-}
-
 // How many bytes of a list are not those of another, which are all where the other is shorter.
 fn differences(a: &[u8], b: &[u8]) -> usize {
     if b.len() < a.len() {
         return a.len();
     }
-    let mut count: usize = 0;
-    for i in 0..a.len() {
-        count = count + unlike(a[i], b[i]);
-    }
-    count
-}
-
-// A word and a number on a line.
-fn say(out: &mut impl Write, word: &[u8], x: u64) -> io::Result<()> {
-    out.write_all(word)?;
-    streams::print_decimal(out, x)?;
-    out.write_all(b"\n")
-}
-
-// The line of how many bytes differ.
-fn say_differences(out: &mut impl Write, word: &[u8], a: &[u8], b: &[u8]) -> io::Result<()> {
-    say(out, word, differences(a, b) as u64)
+    a.iter().zip(b).filter(|(x, y)| **x != **y).count()
 }
 
 // The answer of the writer or the converter.
 fn say_made(out: &mut impl Write, answer: Result<u32, Refusal>) -> io::Result<()> {
     match answer {
-        Ok(bytes) => say(out, b"bytes ", u64::from(bytes)),
-        Err(refusal) => say(out, b"refused ", u64::from(refusal.number())),
+        Ok(bytes) => writeln!(out, "bytes {bytes}"),
+        Err(refusal) => writeln!(out, "{refusal}"),
     }
 }
 
-// The form of a file: 0 for the old one, 1 for the new one.
-fn form_number(new_form: bool) -> u64 {
-    if new_form { 1 } else { 0 }
-}
-
-// The reader's answer.
+// The reader's answer. The form is 0 for the old one, 1 for the new one.
 fn say_read(out: &mut impl Write, answer: Result<Sizes, Refusal>) -> io::Result<()> {
     match answer {
         Ok(
@@ -71,13 +38,13 @@ fn say_read(out: &mut impl Write, answer: Result<Sizes, Refusal>) -> io::Result<
                 new_form,
             },
         ) => {
-            say(out, b"streets ", n as u64)?;
-            say(out, b"sites ", m as u64)?;
-            say(out, b"chosen ", k as u64)?;
-            say(out, b"kind ", kind as u64)?;
-            say(out, b"form ", form_number(new_form))
+            writeln!(out, "streets {n}")?;
+            writeln!(out, "sites {m}")?;
+            writeln!(out, "chosen {k}")?;
+            writeln!(out, "kind {kind}")?;
+            writeln!(out, "form {}", u8::from(new_form))
         }
-        Err(refusal) => say(out, b"refused ", u64::from(refusal.number())),
+        Err(refusal) => writeln!(out, "{refusal}"),
     }
 }
 
@@ -112,9 +79,13 @@ fn read_and_written(
         out,
         planner::write_file(full_town(&table, &counted, &back), 64, 1, new_form, again),
     )?;
-    say_differences(out, b"weights that differ ", weights, &counted)?;
-    say_differences(out, b"row bytes that differ ", rows, &back)?;
-    say_differences(out, b"file bytes that differ ", file, again)
+    writeln!(
+        out,
+        "weights that differ {}",
+        differences(weights, &counted)
+    )?;
+    writeln!(out, "row bytes that differ {}", differences(rows, &back))?;
+    writeln!(out, "file bytes that differ {}", differences(file, again))
 }
 
 // The longest file of the old form: converted, it has all weights 1, and conversion back gives the bytes one began with.
@@ -131,7 +102,7 @@ fn old_file(out: &mut impl Write, scores: &[u16], rows: &[u8]) -> io::Result<()>
     read_and_written(out, false, &file, &weights, rows, &mut again)?;
     say_made(out, planner::convert_file(&file, true, &mut other))?;
     say_made(out, planner::convert_file(&other, false, &mut back))?;
-    say_differences(out, b"file bytes that differ ", &file, &back)
+    writeln!(out, "file bytes that differ {}", differences(&file, &back))
 }
 
 // The longest file: converted to its own form it comes out as it is, and an old one would lose its weights.
@@ -148,7 +119,7 @@ fn new_file(out: &mut impl Write, scores: &[u16], rows: &[u8]) -> io::Result<()>
     )?;
     read_and_written(out, true, &file, &weights, rows, &mut again)?;
     say_made(out, planner::convert_file(&file, true, &mut own))?;
-    say_differences(out, b"file bytes that differ ", &file, &own)?;
+    writeln!(out, "file bytes that differ {}", differences(&file, &own))?;
     say_made(out, planner::convert_file(&file, false, &mut other))
 }
 

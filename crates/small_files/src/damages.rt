@@ -1,18 +1,19 @@
 // Damaged files: every beginning of a file, every byte changed, overwritten by a mark, left out and doubled, wrong weights, and the other form's mark.
 ghost use Rattle.std.specs.Prelude.{◌≡◌, ◌≤◌, ◌<◌, length};
 
+use crate::counts::Counts;
 use crate::lent::FILE;
 use crate::{converts, reads};
 use plain_files::reading;
 
 // Compares what the reader and the converter make of a file.
-pub fn compare(counts: &mut [u64], file: &[u8]) {
+pub fn compare(counts: &mut Counts, file: &[u8]) {
     reads::compare(counts, file);
     converts::compare(counts, file);
 }
 
 // Every beginning of a file.
-fn compare_beginnings(counts: &mut [u64], file: &[u8]) {
+fn compare_beginnings(counts: &mut Counts, file: &[u8]) {
     for end in 0..file.len() {
         compare(counts, &file[..end]);
     }
@@ -29,7 +30,7 @@ fn with_byte(file: [u8; FILE], at: usize, byte: u8) -> [u8; FILE]
 }
 
 // The same, compared.
-fn compare_byte(counts: &mut [u64], file: [u8; FILE], len: usize, at: usize, byte: u8)
+fn compare_byte(counts: &mut Counts, file: [u8; FILE], len: usize, at: usize, byte: u8)
     requires { (length file ≡ 112) × (len ≤ 112) × (at < 112) }
 {
     let changed = with_byte(file, at, byte);
@@ -45,7 +46,7 @@ fn drawn_byte(seed: &mut u64) -> u8 {
 }
 
 // Every byte of a file changed.
-fn compare_bytes(seed: &mut u64, counts: &mut [u64], file: [u8; FILE], len: usize)
+fn compare_bytes(seed: &mut u64, counts: &mut Counts, file: [u8; FILE], len: usize)
     requires { (length file ≡ 112) × (len ≤ 111) }
 {
     for at in 0..len {
@@ -53,54 +54,29 @@ fn compare_bytes(seed: &mut u64, counts: &mut [u64], file: [u8; FILE], len: usiz
     }
 }
 
-// The letters of a mark.
-#[derive(Drop)]
-struct Mark {
-    first: u8,
-    second: u8,
-}
-
 // One of the marks.
-fn drawn_mark(seed: &mut u64) -> Mark {
+fn drawn_mark(seed: &mut u64) -> [u8; 2] {
     match drawn_towns::draw(seed, 6) {
-        0 => Mark {
-            first: b'T',
-            second: b'N',
-        },
-        1 => Mark {
-            first: b'T',
-            second: b'W',
-        },
-        2 => Mark {
-            first: b'S',
-            second: b'C',
-        },
-        3 => Mark {
-            first: b'H',
-            second: b'W',
-        },
-        4 => Mark {
-            first: b'S',
-            second: b'T',
-        },
-        _ => Mark {
-            first: b'E',
-            second: b'N',
-        },
+        0 => *b"TN",
+        1 => *b"TW",
+        2 => *b"SC",
+        3 => *b"HW",
+        4 => *b"ST",
+        _ => *b"EN",
     }
 }
 
 // A file with a mark from an index on.
-fn compare_mark(counts: &mut [u64], file: [u8; FILE], len: usize, at: usize, mark: Mark)
+fn compare_mark(counts: &mut Counts, file: [u8; FILE], len: usize, at: usize, mark: [u8; 2])
     requires { (length file ≡ 112) × (len ≤ 112) × (at ≤ 110) }
 {
-    let begun = with_byte(file, at, mark.first);
-    let changed = with_byte(begun, at + 1, mark.second);
+    let mut changed = file;
+    changed[at..at + 2].copy_from_slice(&mark);
     compare(counts, &changed[..len]);
 }
 
 // Every place of a file overwritten by a mark.
-fn compare_marks(seed: &mut u64, counts: &mut [u64], file: [u8; FILE], len: usize)
+fn compare_marks(seed: &mut u64, counts: &mut Counts, file: [u8; FILE], len: usize)
     requires { (length file ≡ 112) × (len ≤ 111) }
 {
     for at in 0..len {
@@ -110,13 +86,11 @@ fn compare_marks(seed: &mut u64, counts: &mut [u64], file: [u8; FILE], len: usiz
 
 // A file with the byte at an index left out.
 fn without(file: [u8; FILE], at: usize) -> [u8; FILE]
-    requires { length file ≡ 112 }
+    requires { (length file ≡ 112) × (at < 112) }
     ensures { length result ≡ 112 }
 {
     let mut shorter = file;
-    for i in at..FILE - 1 {
-        shorter[i] = file[i + 1];
-    }
+    shorter[at..FILE - 1].copy_from_slice(&file[at + 1..]);
     shorter
 }
 
@@ -126,14 +100,12 @@ fn with_twice(file: [u8; FILE], at: usize) -> [u8; FILE]
     ensures { length result ≡ 112 }
 {
     let mut longer = file;
-    for i in at..FILE - 1 {
-        longer[i + 1] = file[i];
-    }
+    longer[at + 1..].copy_from_slice(&file[at..FILE - 1]);
     longer
 }
 
 // A file with the byte at an index left out, and with it twice.
-fn compare_shifts(counts: &mut [u64], file: [u8; FILE], len: usize, at: usize)
+fn compare_shifts(counts: &mut Counts, file: [u8; FILE], len: usize, at: usize)
     requires { (length file ≡ 112) × (len ≤ 111) × (at < len) }
 {
     let shorter = without(file, at);
@@ -143,7 +115,7 @@ fn compare_shifts(counts: &mut [u64], file: [u8; FILE], len: usize, at: usize)
 }
 
 // Every byte of a file left out, and twice.
-fn compare_lengths(counts: &mut [u64], file: [u8; FILE], len: usize)
+fn compare_lengths(counts: &mut Counts, file: [u8; FILE], len: usize)
     requires { (length file ≡ 112) × (len ≤ 111) }
 {
     for at in 0..len {
@@ -152,7 +124,7 @@ fn compare_lengths(counts: &mut [u64], file: [u8; FILE], len: usize)
 }
 
 // Every byte from an index up to another made 0, and 100: in a new file these are the weights.
-fn compare_weights(counts: &mut [u64], file: [u8; FILE], len: usize, from: usize, to: usize)
+fn compare_weights(counts: &mut Counts, file: [u8; FILE], len: usize, from: usize, to: usize)
     requires { (length file ≡ 112) × (len ≤ 111) × (to ≤ 111) }
 {
     for at in from..to {
@@ -164,7 +136,7 @@ fn compare_weights(counts: &mut [u64], file: [u8; FILE], len: usize, from: usize
 // All damaged copies of a file of n streets and m sites.
 pub fn compare_damages(
     seed: &mut u64,
-    counts: &mut [u64],
+    counts: &mut Counts,
     file: [u8; FILE],
     len: usize,
     n: usize,

@@ -4,10 +4,11 @@
 
 ghost use Rattle.drawn_towns.specs.Small.{Small};
 
+use counts::Counts;
 use drawn_towns::Town;
 use lent::{FILE, UNTOUCHED};
 use plain_files::writing;
-use std::io;
+use std::io::{self, Write};
 
 mod converts;
 mod counts;
@@ -20,7 +21,7 @@ mod writes;
 const TOWNS: u64 = 500;
 
 // The file of a town in a form: written, read, converted, and damaged. An old file of a town with weights is that of the town without them.
-fn compare_form(seed: &mut u64, counts: &mut [u64], town: Town, kind: u8, new_form: bool)
+fn compare_form(seed: &mut u64, counts: &mut Counts, town: Town, kind: u8, new_form: bool)
     requires { Small town }
 {
     let mut file = [UNTOUCHED; FILE];
@@ -36,7 +37,7 @@ fn compare_form(seed: &mut u64, counts: &mut [u64], town: Town, kind: u8, new_fo
 }
 
 // A town in both forms.
-fn compare_town(seed: &mut u64, counts: &mut [u64], town: Town)
+fn compare_town(seed: &mut u64, counts: &mut Counts, town: Town)
     requires { Small town }
 {
     let kind = drawn_towns::draw(seed, 2) as u8;
@@ -56,18 +57,18 @@ fn drawn(seed: &mut u64) -> Town
 }
 
 // All towns.
-fn run(counts: &mut [u64]) {
+fn run(counts: &mut Counts) {
     let mut seed: u64 = 1;
-    for i in 0..TOWNS {
+    for _ in 0..TOWNS {
         let town = drawn(&mut seed);
         compare_town(&mut seed, counts, town);
     }
 }
 
 fn main(rt: HostRuntime) -> io::Result<()> {
-    let mut counts = [0u64; counts::ALL];
+    let mut counts = Counts::none();
     run(&mut counts);
     let mut out = io::writer(&rt);
-    counts::line(&mut out, b"towns ", TOWNS)?;
-    counts::lines(&mut out, &counts)
+    writeln!(out, "towns {TOWNS}")?;
+    counts.lines(&mut out)
 }

@@ -2,111 +2,92 @@
 ghost use Rattle.std.specs.Prelude.{◌≤◌};
 ghost use Rattle.drawn_towns.specs.Small.{Small};
 
-use crate::counts::WRONG;
+use crate::counts::{Counts, Outcome, found};
 use crate::lent::{FILE, UNTOUCHED};
 use crate::{counts, lent};
 use drawn_towns::{Town, changes, weights};
 use plain_files::{surveys, writing};
 use planner::Refusal;
 
-// 0 where a buffer has the right file and its length was answered.
-pub fn made(size: usize, buffer: &[u8], right: &[u8]) -> u8 {
-    if size != right.len() {
-        return WRONG;
-    }
-    if lent::holds(buffer, right) { 0 } else { WRONG }
+// What an answer and its buffer come to: the right file and its length, or a buffer as it was.
+pub fn outcome(answer: Result<u32, Refusal>, buffer: &[u8], right: &[u8]) -> Outcome {
+    let is_right = match answer {
+        Ok(size) => size as usize == right.len() && lent::holds(buffer, right, UNTOUCHED),
+        Err(_) => lent::holds(buffer, &[], UNTOUCHED),
+    };
+    counts::outcome(answer, is_right)
 }
 
-// The number of a refusal, where it left the buffer as it was.
-pub fn refused(x: u8, buffer: &[u8]) -> u8 {
-    if lent::is_untouched(buffer) { x } else { WRONG }
-}
-
-// What an answer and its buffer come to.
-pub fn outcome(answer: Result<u32, Refusal>, buffer: &[u8], right: &[u8]) -> u8 {
-    match answer {
-        Ok(size) => made(size as usize, buffer, right),
-        Err(refusal) => refused(refusal.number(), buffer),
+// A town's survey, as a caller lends it.
+fn survey(town: &Town) -> planner::Town<'_>
+    requires { Small town.now }
+{
+    let Town {
+        n,
+        m,
+        len,
+        scores,
+        weights,
+        weighed,
+        rows,
+        ..
+    } = town;
+    planner::Town {
+        n: *n,
+        m: *m,
+        scores: &scores[..*m],
+        weights: &weights[..*weighed],
+        rows: &rows[..*len],
     }
 }
 
 // What the writer makes of a town, where this file is right.
-fn written(town: Town, kind: u8, new_form: bool, buffer: &mut [u8], right: &[u8]) -> u8
+fn written(town: Town, kind: u8, new_form: bool, buffer: &mut [u8], right: &[u8]) -> Outcome
     requires { Small town }
 {
-    let m = town.m;
-    let w = town.weighed;
-    let len = town.len;
-    let scores = town.scores;
-    let weights = town.weights;
-    let rows = town.rows;
-    let lent = planner::Town {
-        n: town.n,
-        m,
-        scores: &scores[..m],
-        weights: &weights[..w],
-        rows: &rows[..len],
-    };
-    let answer = planner::write_file(lent, town.k, usize::from(kind), new_form, buffer);
+    let kind = usize::from(kind);
+    let answer = planner::write_file(survey(&town), town.k, kind, new_form, buffer);
     outcome(answer, buffer, right)
 }
 
-// What a town's survey is refused for: 6, 8, 24, 9, 10, 11.
-fn survey_refusal(town: Town) -> u8
+// What a town's survey is refused for: 6, 8, 24, 9, 10, 11, and 25 for the weights of a town, where an old file is to be made.
+fn right_survey(town: Town, new_form: bool) -> Result<(), u8>
     requires { Small town }
 {
-    let m = town.m;
-    let w = town.weighed;
-    if w != town.n {
-        return 6;
+    if town.weighed != town.n {
+        return Err(6);
     }
-    let scores = town.scores;
-    let weights = town.weights;
-    let rows = town.rows;
-    surveys::refusal(town.n, m, &scores[..m], &weights[..w], rows)
-}
-
-// 25: the weights of a town, where an old file is to be made.
-fn form_refusal(town: Town, new_form: bool) -> u8
-    requires { Small town }
-{
+    let lent = survey(&town);
+    found(surveys::refusal(town.n, town.m, lent.scores, lent.weights, town.rows))?;
     if new_form {
-        return 0;
+        return Ok(());
     }
-    let n = town.n;
-    let weights = town.weights;
-    surveys::lost_refusal(&weights[..n])
+    found(surveys::lost_refusal(lent.weights))
 }
 
-// The right number for a town, a form and a buffer of some length, where its file has this size.
-fn right_number(town: Town, new_form: bool, room: usize, size: usize) -> u8
+// What is right for a town, a form and a buffer of some length, where its file has this size.
+fn right_answer(town: Town, new_form: bool, room: usize, size: usize) -> Result<(), u8>
     requires { Small town }
 {
-    let x = survey_refusal(town);
-    if x != 0 {
-        return x;
-    }
-    let x = form_refusal(town, new_form);
-    if x != 0 {
-        return x;
-    }
-    if room < size { 7 } else { 0 }
+    right_survey(town, new_form)?;
+    if room < size { Err(7) } else { Ok(()) }
 }
 
 // Compares what the writer makes of a town with a buffer of some length.
-fn compare(counts: &mut [u64], town: Town, kind: u8, new_form: bool, room: usize)
+fn compare(counts: &mut Counts, town: Town, kind: u8, new_form: bool, room: usize)
     requires { Small town × (room ≤ 112) }
 {
     let mut right = [0u8; FILE];
     let size = writing::write(&mut right, town, kind, new_form);
     let mut buffer = [UNTOUCHED; FILE];
     let given = written(town, kind, new_form, &mut buffer[..room], &right[..size]);
-    let number = right_number(town, new_form, room, size);
-    counts::compare(counts, counts::WRITER, given, number);
+    counts
+        .writer
+        .compare(given, right_answer(town, new_form, room, size));
 }
 
 // A town in a form, with a buffer of every length.
-pub fn compare_rooms(counts: &mut [u64], town: Town, kind: u8, new_form: bool)
+pub fn compare_rooms(counts: &mut Counts, town: Town, kind: u8, new_form: bool)
     requires { Small town }
 {
     for room in 0..FILE + 1 {
@@ -115,7 +96,7 @@ pub fn compare_rooms(counts: &mut [u64], town: Town, kind: u8, new_form: bool)
 }
 
 // A town in both forms, with a buffer of a drawn length.
-fn compare_forms(seed: &mut u64, counts: &mut [u64], town: Town, kind: u8)
+fn compare_forms(seed: &mut u64, counts: &mut Counts, town: Town, kind: u8)
     requires { Small town }
 {
     compare(counts, town, kind, false, drawn_towns::draw(seed, FILE + 1));
@@ -123,7 +104,7 @@ fn compare_forms(seed: &mut u64, counts: &mut [u64], town: Town, kind: u8)
 }
 
 // A town with a weight too few, and with one too many.
-fn compare_counts(seed: &mut u64, counts: &mut [u64], town: Town, kind: u8)
+fn compare_counts(seed: &mut u64, counts: &mut Counts, town: Town, kind: u8)
     requires { Small town }
 {
     compare_forms(seed, counts, weights::with_count(town, town.n - 1), kind);
@@ -141,7 +122,7 @@ fn drawn_change(seed: &mut u64, town: Town) -> Town
 }
 
 // A town with a changed score, weight or byte.
-fn compare_changed(seed: &mut u64, counts: &mut [u64], town: Town, kind: u8)
+fn compare_changed(seed: &mut u64, counts: &mut Counts, town: Town, kind: u8)
     requires { Small town }
 {
     let scored = changes::with_score(seed, town);
@@ -153,7 +134,7 @@ fn compare_changed(seed: &mut u64, counts: &mut [u64], town: Town, kind: u8)
 }
 
 // All of these, and a town with one of each change.
-pub fn compare_changes(seed: &mut u64, counts: &mut [u64], town: Town, kind: u8)
+pub fn compare_changes(seed: &mut u64, counts: &mut Counts, town: Town, kind: u8)
     requires { Small town }
 {
     compare_counts(seed, counts, town, kind);

@@ -22,8 +22,7 @@ fn best(town: Town, chosen: [u8; SITES]) -> Given
     let found = divisions::best_division(town);
     let division = found.division;
     Given {
-        total: found.total,
-        refused: 0,
+        answer: Ok(found.total),
         division,
         chosen,
     }
@@ -34,7 +33,7 @@ fn right_division(town: Town) -> Given
     requires { Small town }
 {
     if is_short(town) {
-        return answers::plain(0, 5);
+        return Given::alone(Err(5));
     }
     best(town, [UNTOUCHED; SITES])
 }
@@ -48,13 +47,13 @@ pub fn right_plan(town: Town) -> Given
 }
 
 // The floor that is right for the town.
-fn right_floor(town: Town) -> Given
+fn right_floor(town: Town) -> Result<u32, u8>
     requires { Small town }
 {
     if is_short(town) {
-        return answers::plain(0, 5);
+        return Err(5);
     }
-    answers::plain(floors::floor(town), 0)
+    Ok(floors::floor(town))
 }
 
 // 1 where the division over the town's list is not right, else 0.
@@ -62,13 +61,8 @@ pub fn wrong_division(out: &mut impl Write, town: Town, shown: bool) -> io::Resu
     requires { Small town }
     ensures { IfOk result (λ x. x ≤ 1) }
 {
-    answers::wrong(
-        out,
-        town,
-        entries::division(town, true),
-        right_division(town),
-        shown,
-    )
+    let given = entries::division(town, planner::balanced_division);
+    answers::wrong(out, town, given, right_division(town), shown)
 }
 
 // 1 where the floor is not right, else 0.
@@ -76,5 +70,6 @@ pub fn wrong_floor(out: &mut impl Write, town: Town, shown: bool) -> io::Result<
     requires { Small town }
     ensures { IfOk result (λ x. x ≤ 1) }
 {
-    answers::wrong(out, town, entries::floor(town), right_floor(town), shown)
+    let right = Given::alone(right_floor(town));
+    answers::wrong(out, town, entries::floor(town), right, shown)
 }

@@ -6,154 +6,109 @@ ghost use Rattle.drawn_towns.specs.Small.{Small};
 use crate::answers;
 use crate::answers::{Given, UNTOUCHED};
 use drawn_towns::asked::Asked;
-use drawn_towns::loads::Loads;
+use drawn_towns::loads::{Load, Loads};
 use drawn_towns::{SITES, STREETS, Town};
 use planner::Refusal;
 
-// A division over a list, balanced or free.
-fn divided(
-    balanced: bool,
-    town: planner::Town<'_>,
-    sites: &[u8],
-    division: &mut [u8],
-) -> Result<u32, Refusal> {
-    if balanced {
-        return planner::balanced_division(town, sites, division);
+// A town's survey, as a caller lends it.
+pub fn lent(town: &Town) -> planner::Town<'_>
+    requires { Small town.now }
+{
+    let Town {
+        n,
+        m,
+        len,
+        scores,
+        weights,
+        weighed,
+        rows,
+        ..
+    } = town;
+    planner::Town {
+        n: *n,
+        m: *m,
+        scores: &scores[..*m],
+        weights: &weights[..*weighed],
+        rows: &rows[..*len],
     }
-    planner::free_division(town, sites, division)
 }
 
-// The division over a town's list.
-pub fn division(town: Town, balanced: bool) -> Given
-    requires { Small town }
+// The same with the sizes that are asked for.
+fn lent_as<'a>(town: &'a Town, asked: &Asked) -> planner::Town<'a>
+    requires { Small town.now }
 {
-    let n = town.n;
-    let m = town.m;
-    let len = town.len;
-    let k = town.k;
-    let w = town.weighed;
-    let scores = town.scores;
-    let weights = town.weights;
-    let rows = town.rows;
-    let sites = town.sites;
+    planner::Town {
+        n: asked.n,
+        m: asked.m,
+        ..lent(town)
+    }
+}
+
+// The division over a town's list, by one of the calls that divide.
+pub fn division<D>(town: Town, divide: D) -> Given
+where
+    D: Fn(planner::Town<'_>, &[u8], &mut [u8]) -> Result<u32, Refusal>,
+    requires small { Small town }
+    requires callable { D.IsAlwaysCallable divide }
+{
     let mut division = [UNTOUCHED; STREETS];
-    let lent = planner::Town {
-        n: n,
-        m: m,
-        scores: &scores[..m],
-        weights: &weights[..w],
-        rows: &rows[..len],
-    };
-    let answer = divided(balanced, lent, &sites[..k], &mut division[..n]);
-    answers::told(answer, division, [UNTOUCHED; SITES])
+    let answer = divide(lent(&town), &town.sites[..town.k], &mut division[..town.n]);
+    Given {
+        answer: answers::numbered(answer),
+        division,
+        chosen: [UNTOUCHED; SITES],
+    }
 }
 
 // The plan that is asked for, over a town's survey, with buffers for its streets and its k sites.
 pub fn plan(town: Town, asked: Asked) -> Given
     requires { Small town }
 {
-    let n = town.n;
-    let m = town.m;
-    let len = town.len;
-    let k = town.k;
-    let w = town.weighed;
-    let scores = town.scores;
-    let weights = town.weights;
-    let rows = town.rows;
     let mut division = [UNTOUCHED; STREETS];
     let mut chosen = [UNTOUCHED; SITES];
-    let lent = planner::Town {
-        n: asked.n,
-        m: asked.m,
-        scores: &scores[..m],
-        weights: &weights[..w],
-        rows: &rows[..len],
-    };
     let answer = planner::plan(
-        lent,
+        lent_as(&town, &asked),
         asked.k,
         asked.kind,
-        &mut division[..n],
-        &mut chosen[..k],
+        &mut division[..town.n],
+        &mut chosen[..town.k],
     );
-    answers::told(answer, division, chosen)
+    Given {
+        answer: answers::numbered(answer),
+        division,
+        chosen,
+    }
 }
 
 // The total of a town's list.
 pub fn list_total(town: Town) -> Given
     requires { Small town }
 {
-    let m = town.m;
-    let len = town.len;
-    let k = town.k;
-    let w = town.weighed;
-    let scores = town.scores;
-    let weights = town.weights;
-    let rows = town.rows;
-    let sites = town.sites;
-    let lent = planner::Town {
-        n: town.n,
-        m: m,
-        scores: &scores[..m],
-        weights: &weights[..w],
-        rows: &rows[..len],
-    };
-    let answer = planner::list_total(lent, &sites[..k]);
-    answers::told_alone(answer)
+    let answer = planner::list_total(lent(&town), &town.sites[..town.k]);
+    Given::alone(answers::numbered(answer))
 }
 
 // The floor of a town's k sites.
 pub fn floor(town: Town) -> Given
     requires { Small town }
 {
-    let m = town.m;
-    let len = town.len;
-    let w = town.weighed;
-    let scores = town.scores;
-    let weights = town.weights;
-    let rows = town.rows;
-    let lent = planner::Town {
-        n: town.n,
-        m: m,
-        scores: &scores[..m],
-        weights: &weights[..w],
-        rows: &rows[..len],
-    };
-    let answer = planner::floor(lent, town.k);
-    answers::told_alone(answer)
+    Given::alone(answers::numbered(planner::floor(lent(&town), town.k)))
 }
 
-// The check of a town's survey.
+// The check of a town's survey, which has the total 0.
 pub fn check(town: Town) -> Given
     requires { Small town }
 {
-    let m = town.m;
-    let len = town.len;
-    let w = town.weighed;
-    let scores = town.scores;
-    let weights = town.weights;
-    let rows = town.rows;
-    let lent = planner::Town {
-        n: town.n,
-        m: m,
-        scores: &scores[..m],
-        weights: &weights[..w],
-        rows: &rows[..len],
-    };
-    let answer = planner::check_survey(lent, town.k);
-    answers::plain(0, answers::number_of(answer))
+    let answer = planner::check_survey(lent(&town), town.k);
+    Given::alone(answers::numbered(answer.map(|()| 0)))
 }
 
-// How many entries of a buffer are lent: all of them, or one fewer.
-fn lent(len: usize, is_short: bool) -> usize
-    ensures { result ≤ len }
-{
+// The buffer that is lent of a list: all of it, or one entry fewer.
+fn part(list: &[u32], is_short: bool) -> &[u32] {
     if is_short {
-        if 0 < len {
-            return len - 1;
-        }
+        return &list[..list.len().saturating_sub(1)];
     }
-    len
+    list
 }
 
 // The test of a hand plan that is asked for, over a survey of n streets and m sites, with its loads.
@@ -168,19 +123,19 @@ fn tested(
 ) -> Result<u32, Refusal>
     requires { (n ≤ 8) × (m ≤ 5) × Sized loads }
 {
-    let kilograms = loads.kilograms.streets;
-    let litres = loads.litres.streets;
-    let kilogram_limits = loads.kilograms.limits;
-    let litre_limits = loads.litres.limits;
-    let a = lent(n, loads.short == 1);
-    let b = lent(n, loads.short == 2);
-    let c = lent(m, loads.short == 3);
-    let d = lent(m, loads.short == 4);
+    let Load {
+        streets: kilograms,
+        limits: kilogram_limits,
+    } = loads.kilograms;
+    let Load {
+        streets: litres,
+        limits: litre_limits,
+    } = loads.litres;
     let brought = planner::Loads {
-        kilograms: &kilograms[..a],
-        litres: &litres[..b],
-        kilogram_limits: &kilogram_limits[..c],
-        litre_limits: &litre_limits[..d],
+        kilograms: part(&kilograms[..n], loads.short == 1),
+        litres: part(&litres[..n], loads.short == 2),
+        kilogram_limits: part(&kilogram_limits[..m], loads.short == 3),
+        litre_limits: part(&litre_limits[..m], loads.short == 4),
     };
     planner::hand_plan(town, asked.k, asked.kind, division, claimed, brought)
 }
@@ -189,20 +144,15 @@ fn tested(
 pub fn hand(town: Town, asked: Asked, division: [u8; STREETS], claimed: u32, loads: Loads) -> Given
     requires { Small town × Sized loads }
 {
-    let n = town.n;
-    let m = town.m;
-    let len = town.len;
-    let w = town.weighed;
-    let scores = town.scores;
-    let weights = town.weights;
-    let rows = town.rows;
-    let lent = planner::Town {
-        n: asked.n,
-        m: asked.m,
-        scores: &scores[..m],
-        weights: &weights[..w],
-        rows: &rows[..len],
-    };
-    let answer = tested(asked, n, m, lent, &division[..n], claimed, loads);
-    answers::told_alone(answer)
+    let survey = lent_as(&town, &asked);
+    let answer = tested(
+        asked,
+        town.n,
+        town.m,
+        survey,
+        &division[..town.n],
+        claimed,
+        loads,
+    );
+    Given::alone(answers::numbered(answer))
 }

@@ -16,8 +16,7 @@ pub fn right_plan(town: Town) -> Given
     let set = choice.set;
     let chosen = choice.sites;
     Given {
-        total: sets::set_total(town, set),
-        refused: 0,
+        answer: Ok(sets::set_total(town, set)),
         division: sets::division(town, set),
         chosen,
     }
@@ -30,12 +29,12 @@ pub fn wrong_division(out: &mut impl Write, town: Town, shown: bool) -> io::Resu
 {
     let set = sets::listed(town);
     let right = Given {
-        total: sets::set_total(town, set),
-        refused: 0,
+        answer: Ok(sets::set_total(town, set)),
         division: sets::division(town, set),
         chosen: [UNTOUCHED; SITES],
     };
-    answers::wrong(out, town, entries::division(town, false), right, shown)
+    let given = entries::division(town, planner::free_division);
+    answers::wrong(out, town, given, right, shown)
 }
 
 // 1 where the list's total is another one, else 0.
@@ -43,6 +42,6 @@ pub fn wrong_total(out: &mut impl Write, town: Town, shown: bool) -> io::Result<
     requires { Small town }
     ensures { IfOk result (λ x. x ≤ 1) }
 {
-    let right = answers::plain(sets::set_total(town, sets::listed(town)), 0);
+    let right = Given::alone(Ok(sets::set_total(town, sets::listed(town))));
     answers::wrong(out, town, entries::list_total(town), right, shown)
 }

@@ -27,7 +27,7 @@ fn wrong_test(
 {
     let none = drawn_towns::loads::none();
     let given = entries::hand(town, asked, division, claimed, none);
-    let right = load_checks::right_answer(town, asked, division, claimed, none);
+    let right = Given::alone(load_checks::right_answer(town, asked, division, claimed, none));
     let count = answers::wrong(out, town, given, right, shown)?;
     Ok(
         count
@@ -49,15 +49,9 @@ fn wrong_own(
     ensures { IfOk result (λ x. x ≤ 1) }
 {
     let division = plan.division;
-    let given = entries::hand(
-        town,
-        asked,
-        division,
-        plan.total,
-        drawn_towns::loads::none(),
-    );
-    let right = answers::plain(plan.total, plan.refused);
-    answers::wrong(out, town, given, right, shown)
+    let total = plan.answer.unwrap_or(0);
+    let given = entries::hand(town, asked, division, total, drawn_towns::loads::none());
+    answers::wrong(out, town, given, Given::alone(plan.answer), shown)
 }
 
 // How many answers about a plan with its own total are wrong.
@@ -135,8 +129,8 @@ fn drawn(seed: &mut u64, town: Town) -> [u8; STREETS]
     requires { Small town }
 {
     let mut division = [0u8; STREETS];
-    for s in 0..town.n {
-        division[s] = (drawn_towns::draw(seed, town.m) + 1) as u8;
+    for site in division[..town.n].iter_mut() {
+        *site = (drawn_towns::draw(seed, town.m) + 1) as u8;
     }
     division
 }
@@ -171,12 +165,12 @@ pub fn wrong_hands(
     ensures { IfOk result (λ x. x ≤ 22) }
 {
     let division = plan.division;
-    let total = plan.total;
-    let higher = std::num::wrapping_add_u32(total, 1);
+    let total = plan.answer.unwrap_or(0);
+    let higher = total.wrapping_add(1);
     let mut count = wrong_own(out, town, asked, plan, shown)?;
-    count = count + wrong_test(out, seed, numbers, town, asked, division, total, shown)?;
-    count = count + wrong_test(out, seed, numbers, town, asked, division, higher, shown)?;
-    count = count + wrong_changed(out, seed, numbers, town, asked, division, total, shown)?;
-    count = count + wrong_moved(out, seed, numbers, town, asked, plan, shown)?;
+    count += wrong_test(out, seed, numbers, town, asked, division, total, shown)?;
+    count += wrong_test(out, seed, numbers, town, asked, division, higher, shown)?;
+    count += wrong_changed(out, seed, numbers, town, asked, division, total, shown)?;
+    count += wrong_moved(out, seed, numbers, town, asked, plan, shown)?;
     Ok(count + wrong_drawn(out, seed, numbers, town, asked, shown)?)
 }

@@ -2,9 +2,9 @@
 ghost use Rattle.std.specs.Prelude.{◌≤◌, IfOk};
 ghost use Rattle.drawn_towns.specs.Small.{Small};
 
-use crate::answers::UNTOUCHED;
+use crate::answers::{Given, UNTOUCHED};
 use crate::load_checks::NUMBERS;
-use crate::{answers, entries, load_checks, say};
+use crate::{answers, entries, load_checks};
 use drawn_towns::{STREETS, Town, asked};
 use std::io::{self, Write};
 
@@ -20,10 +20,9 @@ pub fn wrong_kinds(
     ensures { IfOk result (λ x. x ≤ 2) }
 {
     let asked = asked::of_wrong_kind(town, turn);
-    let refused = plain_search::asked::refusal(asked);
-    let x = refused as usize;
-    numbers[x] = std::num::wrapping_add_u64(numbers[x], 1);
-    let right = answers::plain(0, refused);
+    let number = plain_search::asked::refusal(asked);
+    load_checks::count(numbers, number);
+    let right = Given::alone(Err(number));
     let plan = entries::plan(town, asked);
     let hand = entries::hand(
         town,
@@ -38,17 +37,14 @@ pub fn wrong_kinds(
 
 // The lines that say which numbers the wrong kinds had.
 pub fn lines(out: &mut impl Write, numbers: [u64; NUMBERS]) -> io::Result<()> {
-    say::line(
+    let all = load_checks::all(numbers);
+    writeln!(out, "wrong kinds, of a plan and of a hand plan {all}")?;
+    writeln!(out, "of these, refused for the streets {}", numbers[1])?;
+    writeln!(out, "of these, refused for the sites {}", numbers[2])?;
+    writeln!(
         out,
-        b"wrong kinds, of a plan and of a hand plan ",
-        load_checks::all(numbers),
+        "of these, refused for the sites to choose {}",
+        numbers[3]
     )?;
-    say::line(out, b"of these, refused for the streets ", numbers[1])?;
-    say::line(out, b"of these, refused for the sites ", numbers[2])?;
-    say::line(
-        out,
-        b"of these, refused for the sites to choose ",
-        numbers[3],
-    )?;
-    say::line(out, b"of these, refused for the kind ", numbers[4])
+    writeln!(out, "of these, refused for the kind {}", numbers[4])
 }

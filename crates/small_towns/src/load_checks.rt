@@ -4,7 +4,7 @@ ghost use Rattle.drawn_towns.specs.Sized.{Sized};
 ghost use Rattle.drawn_towns.specs.Small.{Small};
 
 use crate::answers::Given;
-use crate::{answers, entries, say};
+use crate::{answers, entries};
 use drawn_towns::asked::Asked;
 use drawn_towns::loads::Loads;
 use drawn_towns::{STREETS, Town};
@@ -14,6 +14,12 @@ use std::io::{self, Write};
 // how often each number was given is a table by that number, 0 for no refusal
 pub const NUMBERS: usize = 256;
 
+// One more plan with this number.
+pub fn count(numbers: &mut [u64; NUMBERS], number: u8) {
+    let times = &mut numbers[usize::from(number)];
+    *times = times.wrapping_add(1);
+}
+
 // What the test of a plan with loads must give: the number that is right, or the total that is claimed.
 pub fn right_answer(
     town: Town,
@@ -21,14 +27,11 @@ pub fn right_answer(
     division: [u8; STREETS],
     claimed: u32,
     loads: Loads,
-) -> Given
+) -> Result<u32, u8>
     requires { Small town × Sized loads }
 {
-    let x = hands::refusal(town, asked, division, claimed, loads);
-    if x == 0 {
-        return answers::plain(claimed, 0);
-    }
-    answers::plain(0, x)
+    answers::found(hands::refusal(town, asked, division, claimed, loads))?;
+    Ok(claimed)
 }
 
 // Whether what is given with loads keeps to what is given without: it is the same where no load or limit is refused and each site's two sums are
@@ -36,16 +39,10 @@ pub fn right_answer(
 fn is_kept(town: Town, division: [u8; STREETS], loads: Loads, given: Given, without: Given) -> bool
     requires { Small town × Sized loads }
 {
-    if loads::numbers_refusal(town, loads) != 0 {
-        return given.refused != 0;
+    if loads::numbers_refusal(town, loads) != 0 || !loads::is_within(town, division, loads) {
+        return given.answer.is_err();
     }
-    if !loads::is_within(town, division, loads) {
-        return given.refused != 0;
-    }
-    if given.refused != without.refused {
-        return false;
-    }
-    given.total == without.total
+    given.answer == without.answer
 }
 
 // How many answers about a plan with drawn loads are wrong: the answer itself, and what it must keep of the one without loads. Its number is counted.
@@ -65,37 +62,37 @@ pub fn wrong_loaded(
 {
     let loads = drawn_towns::loads::draw_loads(seed, town, division);
     let given = entries::hand(town, asked, division, claimed, loads);
-    let right = right_answer(town, asked, division, claimed, loads);
-    let x = given.refused as usize;
-    numbers[x] = std::num::wrapping_add_u64(numbers[x], 1);
-    let count = answers::wrong(out, town, given, right, shown)?;
+    let right = Given::alone(right_answer(town, asked, division, claimed, loads));
+    count(numbers, given.answer.err().unwrap_or(0));
+    let wrong = answers::wrong(out, town, given, right, shown)?;
     let kept = is_kept(town, division, loads, given, without);
-    Ok(count + answers::fails(out, town, kept, shown)?)
+    Ok(wrong + answers::fails(out, town, kept, shown)?)
 }
 
 // How many plans were counted.
 pub fn all(numbers: [u64; NUMBERS]) -> u64 {
     let mut sum: u64 = 0;
-    for x in 0..NUMBERS {
-        sum = std::num::wrapping_add_u64(sum, numbers[x]);
+    for times in numbers {
+        sum = sum.wrapping_add(times);
     }
     sum
 }
 
 // The lines that say which numbers the plans with loads had.
 pub fn lines(out: &mut impl Write, numbers: [u64; NUMBERS]) -> io::Result<()> {
-    say::line(out, b"hand plans with loads ", all(numbers))?;
-    say::line(out, b"of these, passing ", numbers[0])?;
-    say::line(out, b"of these, with a buffer too short ", numbers[6])?;
-    say::line(
+    let all = all(numbers);
+    writeln!(out, "hand plans with loads {all}")?;
+    writeln!(out, "of these, passing {}", numbers[0])?;
+    writeln!(out, "of these, with a buffer too short {}", numbers[6])?;
+    writeln!(
         out,
-        b"of these, with a load or limit too great ",
-        numbers[21],
+        "of these, with a load or limit too great {}",
+        numbers[21]
     )?;
-    say::line(
+    writeln!(
         out,
-        b"of these, with a site over its kilograms ",
-        numbers[22],
+        "of these, with a site over its kilograms {}",
+        numbers[22]
     )?;
-    say::line(out, b"of these, with a site over its litres ", numbers[23])
+    writeln!(out, "of these, with a site over its litres {}", numbers[23])
 }

@@ -51,8 +51,8 @@ fn wrong_lists(out: &mut impl Write, town: Town, shown: bool) -> io::Result<u64>
     ensures { IfOk result (λ x. x ≤ 4) }
 {
     let mut count = free::wrong_division(out, town, shown)?;
-    count = count + free::wrong_total(out, town, shown)?;
-    count = count + balanced::wrong_division(out, town, shown)?;
+    count += free::wrong_total(out, town, shown)?;
+    count += balanced::wrong_division(out, town, shown)?;
     Ok(count + balanced::wrong_floor(out, town, shown)?)
 }
 
@@ -68,7 +68,7 @@ fn wrong_others(
     ensures { IfOk result (λ x. x ≤ 54) }
 {
     let mut count = plan_checks::wrong_plans(out, seed, numbers, town, 0, shown)?;
-    count = count + plan_checks::wrong_plans(out, seed, numbers, town, 1, shown)?;
+    count += plan_checks::wrong_plans(out, seed, numbers, town, 1, shown)?;
     Ok(count + surveys::wrong_surveys(out, seed, town, shown)?)
 }
 
@@ -89,11 +89,10 @@ impl Counts {
     {
         let shown = self.differences < SHOWN;
         let sizes = self.sizes;
-        self.differences = self.differences + wrong_lists(out, town, shown)?;
-        self.differences = self.differences + wrong_others(out, seed, numbers, town, shown)?;
-        self.differences = self.differences
-            + kinds::wrong_kinds(out, kinds, town, sizes.choices, shown)?;
-        self.compared = self.compared + ANSWERS;
+        self.differences += wrong_lists(out, town, shown)?;
+        self.differences += wrong_others(out, seed, numbers, town, shown)?;
+        self.differences += kinds::wrong_kinds(out, kinds, town, sizes.choices, shown)?;
+        self.compared += ANSWERS;
         self.sizes = sizes.with_choice(town);
         Ok(self)
     }
@@ -105,10 +104,10 @@ impl Counts {
         ensures counts { IfOk result (λ r. (r.compared ≤ self.compared + 260) × (r.differences ≤ self.differences + 260)) }
     {
         let shown = self.differences < SHOWN;
-        self.differences = self.differences + rows::wrong_rows(out, town, shown)?;
-        self.differences = self.differences + weights::wrong_weights(out, town, shown)?;
-        self.compared = self.compared + STREET_ANSWERS * town.n as u64;
-        self.compared = self.compared + WEIGHT_ANSWERS;
+        self.differences += rows::wrong_rows(out, town, shown)?;
+        self.differences += weights::wrong_weights(out, town, shown)?;
+        self.compared += STREET_ANSWERS * town.n as u64;
+        self.compared += WEIGHT_ANSWERS;
         Ok(self)
     }
 
@@ -167,10 +166,10 @@ fn main(rt: HostRuntime) -> io::Result<()> {
     let mut out = io::writer(&rt);
     let counts = run(&mut out, &mut numbers, &mut kinds)?;
     let sizes = counts.sizes;
-    say::line(&mut out, b"towns ", TOWNS)?;
+    writeln!(out, "towns {TOWNS}")?;
     sizes.lines(&mut out)?;
     load_checks::lines(&mut out, numbers)?;
     kinds::lines(&mut out, kinds)?;
-    say::line(&mut out, b"answers compared ", counts.compared)?;
-    say::line(&mut out, b"differences ", counts.differences)
+    writeln!(out, "answers compared {}", counts.compared)?;
+    writeln!(out, "differences {}", counts.differences)
 }

@@ -14,9 +14,8 @@ use std::io::{self, Write};
 fn right_plan(town: Town, asked: Asked) -> Given
     requires { Small town }
 {
-    let x = plain_search::asked::refusal(asked);
-    if x != 0 {
-        return answers::plain(0, x);
+    if let Err(number) = answers::found(plain_search::asked::refusal(asked)) {
+        return Given::alone(Err(number));
     }
     if asked.kind == 0 {
         return free::right_plan(town);
@@ -31,25 +30,18 @@ fn keeps_bound(town: Town, kind: usize, total: u32) -> bool
     if kind == 0 {
         return sets::is_near(town.k, sets::best_total(town), total);
     }
-    let floor = entries::floor(town);
-    floor.total <= total
+    entries::floor(town).answer.unwrap_or(0) <= total
 }
 
 // Whether the chosen sites are those that the rounds chose without weights, where all weights are equal; elsewhere, and of a free plan, it says nothing.
 fn keeps_sites(town: Town, kind: usize, plan: Given) -> bool
     requires { Small town }
 {
-    if kind == 0 {
+    if kind == 0 || plan.answer.is_err() || !weights::are_equal(town) {
         return true;
     }
-    if plan.refused != 0 {
-        return true;
-    }
-    if !weights::are_equal(town) {
-        return true;
-    }
-    let chosen = plan.chosen;
-    answers::same_chosen(chosen, rounds::sites_by_place(town), town.k)
+    let right = rounds::sites_by_place(town);
+    plan.chosen[..town.k] == right[..town.k]
 }
 
 // How many answers about the plan of one kind, and about hand plans made from it, are wrong.
@@ -66,8 +58,9 @@ pub fn wrong_plans(
 {
     let asked = asked::of_kind(town, kind);
     let plan = entries::plan(town, asked);
+    let bounded = keeps_bound(town, kind, plan.answer.unwrap_or(0));
     let mut count = answers::wrong(out, town, plan, right_plan(town, asked), shown)?;
-    count = count + answers::fails(out, town, keeps_bound(town, kind, plan.total), shown)?;
-    count = count + answers::fails(out, town, keeps_sites(town, kind, plan), shown)?;
+    count += answers::fails(out, town, bounded, shown)?;
+    count += answers::fails(out, town, keeps_sites(town, kind, plan), shown)?;
     Ok(count + hands::wrong_hands(out, seed, numbers, town, asked, plan, shown)?)
 }

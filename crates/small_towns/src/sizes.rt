@@ -3,7 +3,6 @@ ghost use Rattle.std.specs.Prelude.{◌≡◌, ◌+◌, ◌≤◌};
 ghost use Rattle.drawn_towns.specs.Small.{Small};
 ghost use Rattle.small_towns.specs.Counted.{Counted};
 
-use crate::say;
 use drawn_towns::{SITES, STREETS, Town};
 use std::io::{self, Write};
 
@@ -18,22 +17,6 @@ pub struct Sizes {
     pub uneven: u64,
     pub short: u64,
     pub met: [bool; PAIRS],
-}
-
-// 1 where something holds, else 0.
-fn one(holds: bool) -> u64
-    ensures { result ≤ 1 }
-{
-    if holds { 1 } else { 0 }
-}
-
-// How many pairs were met.
-fn count(met: [bool; PAIRS]) -> u64 {
-    let mut pairs: u64 = 0;
-    for i in 0..PAIRS {
-        pairs = pairs + one(met[i]);
-    }
-    pairs
 }
 
 impl Sizes {
@@ -55,19 +38,19 @@ impl Sizes {
         ensures { Counted result × (result.choices ≡ self.choices + 1) }
     {
         let at = (town.n - 1) * SITES + (town.k - 1);
-        self.choices = self.choices + 1;
-        self.uneven = self.uneven + one(town.n % town.k != 0);
-        self.short = self.short + one(town.n < town.k);
+        self.choices += 1;
+        self.uneven += u64::from(town.n % town.k != 0);
+        self.short += u64::from(town.n < town.k);
         self.met[at] = true;
         self
     }
 
     // The lines that say it.
     pub fn lines(self, out: &mut impl Write) -> io::Result<()> {
-        let met = self.met;
-        say::line(out, b"numbers of sites to choose ", self.choices)?;
-        say::line(out, b"of these, not dividing the streets ", self.uneven)?;
-        say::line(out, b"of these, above the streets ", self.short)?;
-        say::line(out, b"pairs of streets and sites to choose ", count(met))
+        let pairs = self.met.iter().filter(|met| **met).count();
+        writeln!(out, "numbers of sites to choose {}", self.choices)?;
+        writeln!(out, "of these, not dividing the streets {}", self.uneven)?;
+        writeln!(out, "of these, above the streets {}", self.short)?;
+        writeln!(out, "pairs of streets and sites to choose {pairs}")
     }
 }

@@ -2,6 +2,7 @@
 ghost use Rattle.std.specs.Prelude.{◌≤◌, IfOk};
 ghost use Rattle.drawn_towns.specs.Small.{Small};
 
+use crate::answers::Given;
 use crate::{answers, entries};
 use drawn_towns::{Town, changes};
 use plain_files::surveys;
@@ -11,12 +12,8 @@ use std::io::{self, Write};
 fn right_number(town: Town) -> u8
     requires { Small town }
 {
-    let m = town.m;
-    let w = town.weighed;
-    let scores = town.scores;
-    let weights = town.weights;
-    let rows = town.rows;
-    surveys::refusal(town.n, m, &scores[..m], &weights[..w], rows)
+    let survey = entries::lent(&town);
+    surveys::refusal(town.n, town.m, survey.scores, survey.weights, town.rows)
 }
 
 // 1 where the check is wrong about a town, else 0.
@@ -24,7 +21,7 @@ fn wrong_check(out: &mut impl Write, town: Town, shown: bool) -> io::Result<u64>
     requires { Small town }
     ensures { IfOk result (λ x. x ≤ 1) }
 {
-    let right = answers::plain(0, right_number(town));
+    let right = Given::alone(answers::found(right_number(town)).map(|()| 0));
     answers::wrong(out, town, entries::check(town), right, shown)
 }
 
@@ -44,7 +41,7 @@ pub fn wrong_surveys(
     let twice = changes::with_weight(seed, scored);
     let changed = changes::with_byte(seed, twice);
     let mut count = wrong_check(out, scored, shown)?;
-    count = count + wrong_check(out, ranked, shown)?;
-    count = count + wrong_check(out, weighed, shown)?;
+    count += wrong_check(out, ranked, shown)?;
+    count += wrong_check(out, weighed, shown)?;
     Ok(count + wrong_check(out, changed, shown)?)
 }

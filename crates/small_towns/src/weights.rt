@@ -3,6 +3,7 @@
 ghost use Rattle.std.specs.Prelude.{◌≤◌, IfOk};
 ghost use Rattle.drawn_towns.specs.Small.{Small};
 
+use crate::answers::Given;
 use crate::{answers, entries, rows};
 use drawn_towns::{STREETS, Town, asked, weights};
 use std::io::{self, Write};
@@ -12,11 +13,13 @@ fn wrong_calls(out: &mut impl Write, town: Town, number: u8, shown: bool) -> io:
     requires { Small town }
     ensures { IfOk result (λ x. x ≤ 5) }
 {
-    let right = answers::plain(0, number);
+    let right = Given::alone(Err(number));
+    let free = entries::division(town, planner::free_division);
+    let balanced = entries::division(town, planner::balanced_division);
     let mut count = answers::wrong(out, town, entries::check(town), right, shown)?;
-    count = count + answers::wrong(out, town, entries::list_total(town), right, shown)?;
-    count = count + answers::wrong(out, town, entries::division(town, false), right, shown)?;
-    count = count + answers::wrong(out, town, entries::division(town, true), right, shown)?;
+    count += answers::wrong(out, town, entries::list_total(town), right, shown)?;
+    count += answers::wrong(out, town, free, right, shown)?;
+    count += answers::wrong(out, town, balanced, right, shown)?;
     Ok(count + answers::wrong(out, town, entries::floor(town), right, shown)?)
 }
 
@@ -32,7 +35,7 @@ fn wrong_of_kind(
     ensures { IfOk result (λ x. x ≤ 2) }
 {
     let asked = asked::of_kind(town, kind);
-    let right = answers::plain(0, number);
+    let right = Given::alone(Err(number));
     let loads = drawn_towns::loads::none();
     let hand = entries::hand(town, asked, [1; STREETS], 0, loads);
     let count = answers::wrong(out, town, entries::plan(town, asked), right, shown)?;
@@ -45,7 +48,7 @@ fn wrong_everywhere(out: &mut impl Write, town: Town, number: u8, shown: bool) -
     ensures { IfOk result (λ x. x ≤ 9) }
 {
     let mut count = wrong_calls(out, town, number, shown)?;
-    count = count + wrong_of_kind(out, town, 0, number, shown)?;
+    count += wrong_of_kind(out, town, 0, number, shown)?;
     Ok(count + wrong_of_kind(out, town, 1, number, shown)?)
 }
 
@@ -71,8 +74,8 @@ fn wrong_streets(out: &mut impl Write, town: Town, shown: bool) -> io::Result<u6
 {
     let mut count: u64 = 0;
     for s in 0..town.n {
-        count = count + wrong_weight(out, town, s, 0, shown)?;
-        count = count + wrong_weight(out, town, s, 100, shown)?;
+        count += wrong_weight(out, town, s, 0, shown)?;
+        count += wrong_weight(out, town, s, 100, shown)?;
     }
     Ok(count)
 }

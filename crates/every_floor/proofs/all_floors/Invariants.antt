@@ -1,7 +1,5 @@
-use Prim.Native.Nat.{◌≤◌, ◌*◌}
-use mathlib.Core.Path.{◌≡◌}
-use lib.ListN.{length}
+use Prim.Native.Nat.{◌≤◌, ◌*◌, ◌+◌}
 use Rattle.every_floor.proofs.all_floors.Given as goal
 
-abbrev pub invariant-loop-i : goal.invariant-loop-i
-invariant-loop-i l = (l.i ≤ 64) × (l.count ≤ l.i * 64) × (length l.rows ≡ 4096)
+abbrev pub invariant-loop-m : goal.invariant-loop-m
+invariant-loop-m l = (l.m ≤ 65) × (l.count + 64 ≤ l.m * 64)

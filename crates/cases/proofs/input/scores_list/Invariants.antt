@@ -1,6 +1,0 @@
--- The buffer keeps its length. Assumes nothing.
-use Rattle.std.proofs.Common.{◌≡◌, length}
-use Rattle.cases.proofs.input.scores_list.Given as goal
-
-abbrev pub invariant-loop-i : goal.invariant-loop-i
-invariant-loop-i g l = length l.buffer ≡ 65
