@@ -14,6 +14,7 @@ fn check(file: &[u8], wanted: bool) -> Result<(), u8> {
 }
 
 // The number of that refusal, and 0 where the file is converted.
+// kept: a number with 0 for none, since a plain model gives the papers' numbers, against which the library's own enum is compared
 pub fn refusal(file: &[u8], wanted: bool) -> u8 {
     check(file, wanted).err().unwrap_or(0)
 }

@@ -204,6 +204,7 @@ pub fn check(file: &[u8]) -> Result<(), u8> {
 }
 
 // The number of its refusal, and 0 where it is right.
+// kept: a number with 0 for none, since a plain model gives the papers' numbers, against which the library's own enum is compared
 pub fn refusal(file: &[u8]) -> u8 {
     check(file).err().unwrap_or(0)
 }

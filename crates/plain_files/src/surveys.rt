@@ -26,6 +26,7 @@ fn check_weight(weight: u8) -> Result<(), u8> {
 }
 
 // The number of that refusal, and 0 where the weight is right.
+// kept: a number with 0 for none, since a plain model gives the papers' numbers, against which the library's own enum is compared
 pub fn weight_refusal(weight: u8) -> u8 {
     check_weight(weight).err().unwrap_or(0)
 }
@@ -47,6 +48,7 @@ pub fn check_lost(weights: &[u8]) -> Result<(), u8> {
 }
 
 // The number of that refusal, and 0 where no weight is lost.
+// kept: a number with 0 for none, since a plain model gives the papers' numbers, against which the library's own enum is compared
 pub fn lost_refusal(weights: &[u8]) -> u8 {
     check_lost(weights).err().unwrap_or(0)
 }
@@ -96,6 +98,7 @@ fn check(n: usize, m: usize, scores: &[u16], weights: &[u8], rows: [u8; BYTES]) 
 }
 
 // The number of their refusal, and 0 where they are right.
+// kept: a number with 0 for none, since a plain model gives the papers' numbers, against which the library's own enum is compared
 pub fn refusal(n: usize, m: usize, scores: &[u16], weights: &[u8], rows: [u8; BYTES]) -> u8
     requires { (n ≤ 8) × (m ≤ 5) }
 {

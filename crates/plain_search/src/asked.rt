@@ -28,6 +28,7 @@ pub fn check(asked: Asked) -> Result<(), u8> {
 }
 
 // The number of the refusal, and 0 where all of it is right.
+// kept: a number with 0 for none, since a plain model gives the papers' numbers, against which the library's own enum is compared
 pub fn refusal(asked: Asked) -> u8 {
     check(asked).err().unwrap_or(0)
 }

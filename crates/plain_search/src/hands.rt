@@ -93,6 +93,7 @@ fn check(
 }
 
 // The number of its refusal, and 0 where it is right.
+// kept: a number with 0 for none, since a plain model gives the papers' numbers, against which the library's own enum is compared
 pub fn refusal(town: Town, asked: Asked, division: [u8; STREETS], claimed: u32, loads: Loads) -> u8
     requires { Small town × Sized loads }
 {

@@ -32,6 +32,7 @@ pub fn check_numbers(town: Town, loads: Loads) -> Result<(), u8>
 }
 
 // The number of that refusal, and 0 where the numbers are right.
+// kept: a number with 0 for none, since a plain model gives the papers' numbers, against which the library's own enum is compared
 pub fn numbers_refusal(town: Town, loads: Loads) -> u8
     requires { Small town × Sized loads }
 {
