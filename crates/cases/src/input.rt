@@ -1,5 +1,7 @@
 // The input of the cases: decimal numbers, which every other byte only separates. A list is its length, a count, and that many values, which stand
 // first in the list, before zeros. No case has a list that is longer than its buffer.
+ghost use Rattle.std.specs.Prelude.{◌≤◌};
+
 use planner::Town;
 use std::io::{self, Read};
 
@@ -41,23 +43,48 @@ pub fn number(reader: &mut impl Read) -> io::Result<usize> {
     Ok(value.unwrap_or(0))
 }
 
-// The next number as a value of a smaller type, which holds it in every case.
-pub fn value<T>(reader: &mut impl Read) -> io::Result<T>
-where
-    T: TryFrom<usize>,
-    <T as TryFrom<usize>>::Error: Drop,
+// What a list is read as: its entries are numbers modulo what is above the greatest one, which holds every entry of a case.
+pub trait Entry: Copy {
+    fn of(number: usize) -> Self;
+}
+
+impl Entry for u8 {
+    fn of(number: usize) -> Self {
+        (number % 256) as u8
+    }
+}
+
+impl Entry for u16 {
+    fn of(number: usize) -> Self {
+        (number % 65536) as u16
+    }
+}
+
+impl Entry for u32 {
+    fn of(number: usize) -> Self {
+        (number % 4294967296) as u32
+    }
+}
+
+// The next number as an entry.
+pub fn value<T: Entry>(reader: &mut impl Read) -> io::Result<T> {
+    Ok(T::of(number(reader)?))
+}
+
+// A number modulo one more than the most, which no length of a case is above.
+fn within(number: usize, most: usize) -> usize
+    ensures { result ≤ most }
 {
-    T::try_from(number(reader)?).map_err(|_| io::ErrorKind::InvalidData.into())
+    if number <= most {
+        return number;
+    }
+    number % (most + 1)
 }
 
 // The next list, in a buffer of zeros.
-pub fn list<'a, T>(reader: &mut impl Read, buffer: &'a mut [T]) -> io::Result<&'a mut [T]>
-where
-    T: Copy + TryFrom<usize>,
-    <T as TryFrom<usize>>::Error: Drop,
-{
-    let len = number(reader)?.min(buffer.len());
-    let count = number(reader)?.min(buffer.len());
+pub fn list<'a, T: Entry>(reader: &mut impl Read, buffer: &'a mut [T]) -> io::Result<&'a mut [T]> {
+    let len = within(number(reader)?, buffer.len());
+    let count = within(number(reader)?, buffer.len());
     for place in buffer[..count].iter_mut() {
         *place = value(reader)?;
     }
@@ -69,7 +96,7 @@ fn same<T: Copy>(each: T, len: usize, buffer: &mut [T]) -> &mut [T] {
     for place in buffer.iter_mut() {
         *place = each;
     }
-    let len = len.min(buffer.len());
+    let len = if len <= buffer.len() { len } else { 0 };
     &mut buffer[..len]
 }
 
