@@ -30,7 +30,7 @@ fn play(valued: Valued<'_>, k: usize) -> State
     let mut orders = [0u16; counting::ENTRIES];
     let keys = &mut keys[..size];
     let orders = &mut orders[..size];
-    tables::keys::fill_for_rounds(valued.town, valued.values, keys);
+    tables::keys::fill_for_rounds(town, valued.values, keys);
     orders::fill_orders(keys, town.n, town.m, orders);
     let table = Table {
         n: town.n,

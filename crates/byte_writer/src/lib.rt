@@ -10,7 +10,11 @@ pub fn write_list(list: &[u8], out: &mut [u8], i: usize) -> usize
     requires { i + length list.now ≤ length out.old }
     ensures { Written out.old i list.now out.new result }
 {
-    let next = i + list.len();
-    out[i..next].copy_from_slice(list);
+    // kept: byte by byte, since `copy_from_slice` into a part of a lent buffer needs memmove, which a program in C may not have
+    let mut next = i;
+    for byte in list {
+        out[next] = *byte;
+        next += 1;
+    }
     next
 }

@@ -25,7 +25,7 @@ fn planned(town: AcceptedTown<'_>, sites: &[u8], k: usize) -> State
 {
     let mut table = [0u16; counting::ENTRIES];
     let values = &mut table[..(town.town.m + 1) * town.town.n];
-    tables::by_site::fill_values(town, values);
+    tables::by_site::fill_values(town.town, values);
     let table = Table {
         n: town.town.n,
         m: town.town.m,

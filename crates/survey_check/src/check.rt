@@ -131,7 +131,8 @@ fn try_rows(town: Town<'_>) -> Result<(), Refusal>
     requires few_sites { town.m ≤ most_sites }
     ensures { number result ≡ rows_refusal town.entry.n town.entry.m town.entry.rows.now }
 {
-    let bits = quick::site_bits(town.m);
+    let mut bits = [0u64; 256];
+    quick::set_bits(town.m, &mut bits);
     // kept: the new form is no plainer, since the street's number gives its row
     for s in 0..town.n {
         try_street(town, &bits, s)?;

@@ -5,17 +5,16 @@ ghost use Rattle.counting.specs.Words.{one};
 ghost use Rattle.survey_check.specs.Bits.{SiteBits, bits_of, ranked_count};
 ghost use Rattle.survey.specs.Refusals.{row_refusal};
 
-// The table of the bits of m sites.
-pub fn site_bits(m: usize) -> [u64; 256]
-    requires { m ≤ most_sites }
-    ensures { SiteBits m result }
+// The table of the bits of m sites, made of a table of zeros where it lies: a table that is handed up by value is copied on the stack.
+pub fn set_bits(m: usize, bits: &mut [u64; 256])
+    requires few_sites { m ≤ most_sites }
+    requires zeros { SiteBits 0 bits.old }
+    ensures { SiteBits m bits.new }
 {
-    let mut bits = [0u64; 256];
     // kept: the new form is no plainer, since the number makes the bit
     for j in 0..m {
         bits[j + 1] = 1u64 << j;
     }
-    bits
 }
 
 // How many bytes of a row are not 0. The count is a byte so that many bytes are counted at once.

@@ -16,11 +16,15 @@ use Rattle.counting.proofs.Sums.{take_next}
 use Rattle.counting.proofs.Tables.{row_within, in_rows, rows_apart}
 use Rattle.counting.proofs.Parts.{part_length}
 use Rattle.survey.specs.Town.{Town}
-use Rattle.survey.specs.Rows.{row_at, row_of, ranked_part, place_in, place_of}
+use Rattle.survey.specs.Rows.{row_at, ranked_part, place_in, place_of}
 use Rattle.survey.specs.Accepted.{SoundRow, Accepted}
 use Rattle.survey.proofs.RowLoops.{ranked-stop, ranked-more, ranked-all, row-part}
 use Rattle.survey.proofs.Places.{place_none, place-new, place-old}
-use Rattle.tables.specs.Entries.{by_site, by_street, Layout, Room, Unread, Entered}
+use Rattle.tables.specs.Entries.{Ranked, by_site, by_street, Layout, Room, Unread, Entered}
+
+-- an accepted survey's rows rank the sites
+pub ranked : {t : Town} → Accepted t → Ranked t.n t.m t.rows
+ranked ok = record { few-streets = ok.few-streets; few-sites = ok.few-sites; rows_fit = ok.rows_fit; sound-rows = ok.sound-rows }
 
 -- ---- the two layouts
 -- a table with an entry for each street and each of the sites 0, 1, .., m is not long
@@ -123,18 +127,18 @@ pub filled-all : {f : ℕ → ℕ → ℕ} {index : ℕ → ℕ → ℕ} {n m : 
     → (a t : ℕ) → a ≤ m → t < n → at table (index a t) ≡ f t (place_of (row_at m rows t) a)
 filled-all h p a t l u = p.done a t l (omega arith) u
 
-module _ {t : Town} {s : ℕ} (ok : Accepted t) (l : s < t.n) where
+module _ {n m : ℕ} {rows : List ℕ} {s : ℕ} (ok : Ranked n m rows) (l : s < n) where
   -- the row of the street ends within the rows
-  pub row_ends : s * t.m + t.m ≤ length t.rows
-  row_ends = omega (arith, row_within t.n t.m s l, ok.rows_fit)
+  pub row_ends : s * m + m ≤ length rows
+  row_ends = omega (arith, row_within n m s l, ok.rows_fit)
 
   -- it has m bytes
-  pub row-length : length (row_of t s) ≡ t.m
-  row-length = rw (← row-part t.m t.rows s) (omega (arith, part_length (s * t.m) (s * t.m + t.m) t.rows row_ends))
+  pub row-length : length (row_at m rows s) ≡ m
+  row-length = rw (← row-part m rows s) (omega (arith, part_length (s * m) (s * m + m) rows row_ends))
 
   -- the row as it is lent
-  module _ {row : List ℕ} (e : row ≡ row_of t s) where
-    row_size : length row ≡ t.m
+  module _ {row : List ℕ} (e : row ≡ row_at m rows s) where
+    row_size : length row ≡ m
     row_size = ap length e ∙ row-length
 
     -- it is sound
@@ -142,10 +146,10 @@ module _ {t : Town} {s : ℕ} (ok : Accepted t) (l : s < t.n) where
     street-sound = rw (row_size, e) (ok.sound-rows s l)
 
     -- and has a score for each byte
-    pub street-scored : length t.scores ≡ length row
-    street-scored = omega (arith, row_size, ok.scores-fit)
+    pub street-scored : (scores : List ℕ) → length scores ≡ m → length scores ≡ length row
+    street-scored scores fit = omega (arith, row_size, fit)
 
-    module _ {f : ℕ → ℕ → ℕ} {index : ℕ → ℕ → ℕ} {table : List ℕ} (p : Filled f index t.n t.m t.rows table s) where
+    module _ {f : ℕ → ℕ → ℕ} {index : ℕ → ℕ → ℕ} {table : List ℕ} (p : Filled f index n m rows table s) where
       -- the table has room for the street
       pub street-room : Room (λ a. index a s) (length row) table
       street-room =
@@ -163,7 +167,7 @@ module _ {t : Town} {s : ℕ} (ok : Accepted t) (l : s < t.n) where
 
       -- with its entries the table is filled by one street more
       pub filled_more : (after : List ℕ) → length after ≡ length table → Entered (f s) (λ a. index a s) row table after
-          → Filled f index t.n t.m t.rows after (s + 1)
+          → Filled f index n m rows after (s + 1)
       filled_more after q k =
           record {
             layout = rw q p.layout;
@@ -172,8 +176,8 @@ module _ {t : Town} {s : ℕ} (ok : Accepted t) (l : s < t.n) where
             rest = λ u v w a x. other a u x w (λ q. omega arith) ∙ p.rest u (omega arith) w a x;
           }
         where
-          own : (a : ℕ) → a ≤ t.m → at after (index a s) ≡ f s (place_of (row_of t s) a)
+          own : (a : ℕ) → a ≤ m → at after (index a s) ≡ f s (place_of (row_at m rows s) a)
           own a u = k.right a (omega (arith, row_size)) ∙ ap (λ (row : List ℕ). f s (place_of row a)) e
 
-          other : (a u : ℕ) → a ≤ t.m → u < t.n → u ≢ s → at after (index a u) ≡ at table (index a u)
+          other : (a u : ℕ) → a ≤ m → u < n → u ≢ s → at after (index a u) ≡ at table (index a u)
           other a u v w d = k.others (index a u) (λ b x. p.layout.streets-apart a b u s v (omega (arith, row_size)) w l d)

@@ -10,10 +10,8 @@ use Rattle.counting.specs.Bounds.{most_streets, most_sites}
 use Rattle.counting.specs.Words.{◌or_else◌}
 use Rattle.counting.specs.Lists.{at}
 use Rattle.counting.proofs.Refusals.{or-stop, or-pass}
-use Rattle.survey.specs.Town.{Town}
-use Rattle.survey.specs.Rows.{row_of}
-use Rattle.survey.specs.Accepted.{Accepted}
-use Rattle.tables.specs.Entries.{by_site, Unread, Entered}
+use Rattle.survey.specs.Rows.{row_at}
+use Rattle.tables.specs.Entries.{Ranked, by_site, Unread, Entered}
 use Rattle.tables.proofs.Filling.{table-small, by-site, Filled, filled_none, filled_more, row-length}
 
 -- the key of a place
@@ -33,16 +31,16 @@ keys_none {n} {m} rows {size} {keys} few few-sites e h =
     (λ i l t k. ap (λ (L : List ℕ). at L i) h ∙ get_or-replicate size i (m + 1) 0 (omega (arith, long, e)) ∙ or-pass (m + 1) 0 0 (suc m) refl refl (add-one m))
 
 -- the call for the street names its keys by the length of the row that it is lent
-module _ {t : Town} {s : ℕ} {keys : List ℕ} (ok : Accepted t) (l : s < t.n) {row : List ℕ} (e : row ≡ row_of t s)
-    (p : Filled (λ s. key_at t.m) (by_site t.n) t.n t.m t.rows keys s) where
-  same : length row ≡ t.m
+module _ {n m : ℕ} {rows : List ℕ} {s : ℕ} {keys : List ℕ} (ok : Ranked n m rows) (l : s < n) {row : List ℕ} (e : row ≡ row_at m rows s)
+    (p : Filled (λ s. key_at m) (by_site n) n m rows keys s) where
+  same : length row ≡ m
   same = ap length e ∙ row-length ok l
 
   -- the street still comes last
-  pub street-last : Unread (key_at (length row)) (λ a. by_site t.n a s) (length row) keys
+  pub street-last : Unread (key_at (length row)) (λ a. by_site n a s) (length row) keys
   street-last = rw same (p.rest s (omega arith) l)
 
   -- with its keys the table is filled by one street more
-  pub keys-more : (after : List ℕ) → length after ≡ length keys → Entered (key_at (length row)) (λ a. by_site t.n a s) row keys after
-      → Filled (λ s. key_at t.m) (by_site t.n) t.n t.m t.rows after (s + 1)
+  pub keys-more : (after : List ℕ) → length after ≡ length keys → Entered (key_at (length row)) (λ a. by_site n a s) row keys after
+      → Filled (λ s. key_at m) (by_site n) n m rows after (s + 1)
   keys-more after q k = filled_more ok l e p after q (rw same at k)

@@ -2,9 +2,17 @@
 -- street at a site is `f` of the site's place in the street's row, and `f 0` where it has none.
 -- Assumes nothing.
 use Rattle.std.specs.Prelude.{◌≡◌, ◌≢◌, List, ℕ, ◌+◌, ◌*◌, ◌≤◌, ◌<◌, length}
-use Rattle.counting.specs.Bounds.{most_sites, most_entries}
+use Rattle.counting.specs.Bounds.{most_streets, most_sites, most_entries}
 use Rattle.counting.specs.Lists.{at}
-use Rattle.survey.specs.Rows.{place_of}
+use Rattle.survey.specs.Rows.{row_at, place_of}
+use Rattle.survey.specs.Accepted.{SoundRow}
+
+-- the rows of an accepted survey: all that the places are read from
+pub record Ranked (n m : ℕ) (rows : List ℕ) : Type 0 where
+  pub few-streets : n ≤ most_streets
+  pub few-sites : m ≤ most_sites
+  pub rows_fit : length rows ≡ n * m
+  pub sound-rows : (s : ℕ) → s < n → SoundRow m (row_at m rows s)
 
 -- the index of a site's and a street's entry: by site, in a row of n entries for each site
 abbrev pub by_site : ℕ → ℕ → ℕ → ℕ

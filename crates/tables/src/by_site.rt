@@ -4,10 +4,10 @@ ghost use Rattle.std.specs.Prelude.{◌≡◌, ◌+◌, length};
 ghost use Rattle.survey.specs.Town.{lent};
 ghost use Rattle.survey.specs.Rows.{score_at, score};
 ghost use Rattle.survey.specs.Accepted.{SoundRow};
-ghost use Rattle.tables.specs.Entries.{by_site, Room, Unread, Entered};
+ghost use Rattle.tables.specs.Entries.{Ranked, by_site, Room, Unread, Entered};
 ghost use Rattle.tables.specs.Tables.{Blank, Tabled};
 
-use survey::accepted::AcceptedTown;
+use survey::Town;
 
 // kept: beside those of `by_street` and `keys`. One function for the three would take the entries' type, the entry of a place and the index of a site
 // as parameters, and ask more of them than the loop has lines.
@@ -27,11 +27,11 @@ fn fill_street(n: usize, s: usize, scores: &[u16], row: &[u8], values: &mut [u16
 }
 
 // The whole table: each street's row fills the street's column.
-pub fn fill_values(town: AcceptedTown<'_>, values: &mut [u16])
-    requires { Blank (town.town.m + 1) town.town.n values.old }
-    ensures { Tabled (λ a s. score (lent town.entry.town) s a) (town.entry.town.m + 1) town.entry.town.n values.new }
+pub fn fill_values(town: Town<'_>, values: &mut [u16])
+    requires ranked { Ranked town.n town.m town.rows.now × (length town.scores.now ≡ town.m) }
+    requires blank { Blank (town.m + 1) town.n values.old }
+    ensures { Tabled (λ a s. score (lent town.entry) s a) (town.entry.m + 1) town.entry.n values.new }
 {
-    let town = town.town;
     for s in 0..town.n {
         fill_street(town.n, s, town.scores, town.row(s), values);
     }

@@ -8,13 +8,12 @@ ghost use Rattle.counting.specs.Lists.{at, cell};
 ghost use Rattle.counting.specs.Buffers.{Mapped};
 ghost use Rattle.survey.specs.Rows.{Even};
 ghost use Rattle.survey.specs.Accepted.{SoundRow};
-ghost use Rattle.tables.specs.Entries.{by_site, Room, Unread, Entered};
+ghost use Rattle.tables.specs.Entries.{Ranked, by_site, Room, Unread, Entered};
 ghost use Rattle.tables.specs.Tables.{StreetTable, value_in};
 ghost use Rattle.tables.specs.RoundKeys.{row_key, round_key};
 ghost use Rattle.balanced_plan.specs.Falling.{FallsBy, CompareAlike};
 
-use survey::accepted::AcceptedTown;
-use survey::weights;
+use survey::{Town, weights};
 
 // No value is above it: a score of at most 1,000 times a weight of at most 99.
 const MOST_VALUE: u32 = 99000;
@@ -36,12 +35,11 @@ fn fill_street(n: usize, s: usize, row: &[u8], keys: &mut [u32])
 
 // The keys of all streets at every site: the place, and m + 1 where the street has not ranked the site. Before any row is read, every street comes
 // last at every site.
-fn fill_keys(town: AcceptedTown<'_>, keys: &mut [u32])
-    requires { length keys.old ≡ (town.town.m + 1) * town.town.n }
-    ensures { (a s : ℕ) → a ≤ town.entry.town.m → s < town.entry.town.n
-        → cell keys.new town.entry.town.n a s ≡ row_key town.entry.town.m town.entry.town.rows.now a s }
+fn fill_keys(town: Town<'_>, keys: &mut [u32])
+    requires ranked { Ranked town.n town.m town.rows.now }
+    requires keys_len { length keys.old ≡ (town.m + 1) * town.n }
+    ensures { (a s : ℕ) → a ≤ town.entry.m → s < town.entry.n → cell keys.new town.entry.n a s ≡ row_key town.entry.m town.entry.rows.now a s }
 {
-    let town = town.town;
     keys.fill(town.m as u32 + 1);
     for s in 0..town.n {
         fill_street(town.n, s, town.row(s), keys);
@@ -79,17 +77,15 @@ fn weigh_keys(values: &[u32], n: usize, m: usize, keys: &mut [u32])
 
 // The keys by which the rounds order the streets: by counted score and then by place. Where the values fall with the places, as they do if all streets
 // have the same weight, the keys by place give the same order, and they are small.
-pub fn fill_for_rounds(town: AcceptedTown<'_>, values: &[u32], keys: &mut [u32])
-    requires street_table { StreetTable town.town.n town.town.m values.now }
-    requires falls { Even town.town.weights.now
-        → FallsBy (row_key town.town.m town.town.rows.now) (value_in values.now town.town.m) town.town.n town.town.m }
-    requires keys_len { length keys.old ≡ (town.town.m + 1) * town.town.n }
-    ensures { CompareAlike (cell keys.new town.entry.town.n)
-        (round_key (value_in values.now town.entry.town.m) town.entry.town.m town.entry.town.rows.now)
-        town.entry.town.n town.entry.town.m }
+pub fn fill_for_rounds(town: Town<'_>, values: &[u32], keys: &mut [u32])
+    requires ranked { Ranked town.n town.m town.rows.now }
+    requires street_table { StreetTable town.n town.m values.now }
+    requires falls { Even town.weights.now → FallsBy (row_key town.m town.rows.now) (value_in values.now town.m) town.n town.m }
+    requires keys_len { length keys.old ≡ (town.m + 1) * town.n }
+    ensures { CompareAlike (cell keys.new town.entry.n) (round_key (value_in values.now town.entry.m) town.entry.m town.entry.rows.now)
+        town.entry.n town.entry.m }
 {
     fill_keys(town, keys);
-    let town = town.town;
     if !weights::even(town.weights) {
         weigh_keys(values, town.n, town.m, keys);
     }

@@ -1,24 +1,31 @@
 use native.Mathlib.Omega.{arith}
-use mathlib.Core.Path.{◌≡◌, refl, sym, ap, ◌∙◌}
-use mathlib.Core.List.{List, ◌++◌, append_assoc}
-use Prim.Native.Nat.{ℕ, ◌+◌, ◌-◌}
-use lib.ListN.{length, take, drop}
-use lib.Seq.{drop-drop}
-use Rattle.counting.specs.Buffers.{laid}
+use mathlib.Core.List.{[], ◌∷◌}
+use Prim.Native.Nat.{◌+◌, ◌≤◌}
+use lib.ListN.{length}
+use Rattle.counting.specs.Lists.{at}
+use Rattle.counting.proofs.Laying.{written_byte, turns-none, turns-room, turns_more, list-room, list_written}
 use Rattle.byte_writer.proofs.write_list.Goals as goal
 
--- a stretch of a buffer that is written anew is laid over it
-laid_over : (buffer list : List ℕ) (i k : ℕ) → k ≡ length list → take i buffer ++ (list ++ drop k (drop i buffer)) ≡ laid buffer i list
-unfolding laid
-laid_over buffer list i k same =
-    rw same (ap (λ (rest : List ℕ). take i buffer ++ (list ++ rest)) (drop-drop (length list) i buffer)
-    ∙ sym (append_assoc (take i buffer) list (drop (i + length list) buffer)))
+pub loop-byte-init : goal.loop-byte-init
+loop-byte-init c = let a = c.args in turns-none a.out.now a.i _ (omega arith)
+
+pub bounds-out-next : goal.bounds-out-next
+bounds-out-next c =
+    let room : c.loop-byte.next + 1 ≤ length c.loop-byte.out = let a = c.args in
+    let l = c.loop-byte in
+    let all = list-room a.list.now a.out.now a.i c.requires in
+    turns-room (λ k. at a.list.now k ∷ []) l.invariant (length a.list.now) (omega arith) all in
+    let r = room in omega arith
+
+pub loop-byte-preserved : goal.loop-byte-preserved
+loop-byte-preserved c =
+    let room : c.loop-byte.next + 1 ≤ length c.loop-byte.out = let a = c.args in
+    let l = c.loop-byte in
+    let all = list-room a.list.now a.out.now a.i c.requires in
+    turns-room (λ k. at a.list.now k ∷ []) l.invariant (length a.list.now) (omega arith) all in
+    let l = c.loop-byte in
+    let r = room in
+    turns_more _ l.invariant (written_byte l.out l.next _ (omega arith))
 
 pub returns : goal.returns
-returns c =
-    let a = c.args in
-    record {
-      room = c.requires;
-      right = rw c.copy_from_slice.ensures.after (laid_over a.out.now a.list.now a.i (a.i + length a.list.now - a.i) (omega arith));
-      behind = refl;
-    }
+returns c = let a = c.args in list_written a.list.now (omega arith) (omega arith) c.loop-byte.invariant

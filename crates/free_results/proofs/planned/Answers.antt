@@ -1,3 +1,4 @@
+use Rattle.tables.proofs.Filling.{ranked}
 use Rattle.tables.proofs.Tabled.{part-blank, site-fits, site-ready}
 use Rattle.free_rounds.specs.Weighed.{weight_of}
 use Rattle.free_results.proofs.Tabled.{sites-planned, held-planned}
@@ -5,7 +6,9 @@ use Rattle.free_results.proofs.Results.{at-most-list}
 use Rattle.free_results.proofs.planned.Goals as goal
 
 pub fill_values-requires : goal.fill_values-requires
-fill_values-requires c = part-blank (site-fits c.args.town.accepted)
+fill_values-requires c =
+    let ok = c.args.town.accepted in
+    record { ranked = (ranked ok, ok.scores-fit); blank = part-blank (site-fits ok) }
 
 pub invariant_of-table : goal.invariant_of-table
 invariant_of-table c = record { site_table = site-ready c.args.town.accepted c.fill_values.ensures; weighed = c.of.ensures.weighed }

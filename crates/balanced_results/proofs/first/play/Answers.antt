@@ -1,6 +1,7 @@
 use mathlib.Core.Path.{◌∙◌}
 use Rattle.counting.specs.Bounds.{most_entries}
 use Rattle.counting.proofs.Parts.{front_length}
+use Rattle.tables.proofs.Filling.{ranked}
 use Rattle.tables.proofs.Tabled.{site-fits, street-ready}
 use Rattle.balanced_results.proofs.SurveyRounds.{values-fall, lines-ready, falling-ready, rounds-surveyed}
 use Rattle.balanced_results.proofs.first.play.Goals as goal
@@ -9,7 +10,7 @@ pub fill_for_rounds-requires : goal.fill_for_rounds-requires
 fill_for_rounds-requires c =
     let v = c.args.valued in
     let ok = v.town.accepted in
-    record { street_table = street-ready ok v.filled; falls = values-fall ok v.filled; keys_len = front_length _ most_entries (site-fits ok) }
+    record { ranked = ranked ok; street_table = street-ready ok v.filled; falls = values-fall ok v.filled; keys_len = front_length _ most_entries (site-fits ok) }
 
 pub fill_orders-requires : goal.fill_orders-requires
 fill_orders-requires c =

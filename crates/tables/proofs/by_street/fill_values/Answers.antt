@@ -1,6 +1,6 @@
 use mathlib.Core.Path.{refl, ◌∙◌}
 use native.Mathlib.Omega.{arith}
-use Rattle.tables.proofs.Filling.{by-street, filled_more}
+use Rattle.tables.proofs.Filling.{ranked, by-street, filled_more}
 use Rattle.tables.proofs.Tabled.{blank-start, weighed-none, street-fits}
 use Rattle.tables.proofs.by_street.fill_values.Goals as goal
 
@@ -14,7 +14,7 @@ loop-s-preserved c =
     let l = c.loop-s in
     let call = c.fill_street in
     let same = call.auto.values in (
-      filled_more c.args.town.accepted (omega (arith, c.args.town.accepted.weights-fit)) c.row.ensures l.invariant.0 call.new.values same
+      filled_more (ranked c.args.town.accepted) (omega (arith, c.args.town.accepted.weights-fit)) c.row.ensures l.invariant.0 call.new.values same
           call.ensures,
       same ∙ l.invariant.1,
     )

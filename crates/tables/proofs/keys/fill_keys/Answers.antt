@@ -5,14 +5,14 @@ use Rattle.tables.proofs.keys.fill_keys.Goals as goal
 
 pub loop-s-init : goal.loop-s-init
 loop-s-init c =
-    let t = c.args.town in
-    (keys_none t.town.rows.now t.accepted.few-streets t.accepted.few-sites c.requires (c.fill.ensures.after (λ y e. e)), c.fill.ensures.len ∙ c.requires)
+    let p = c.requires in
+    (keys_none c.args.town.rows.now p.ranked.few-streets p.ranked.few-sites p.keys_len (c.fill.ensures.after (λ y e. e)), c.fill.ensures.len ∙ p.keys_len)
 
 pub fill_street-requires-clause-unread : goal.fill_street-requires-clause-unread
-fill_street-requires-clause-unread c = street-last c.args.town.accepted (omega arith) c.row.ensures c.loop-s.invariant.0
+fill_street-requires-clause-unread c = street-last c.requires.ranked (omega arith) c.row.ensures c.loop-s.invariant.0
 
 pub loop-s-preserved : goal.loop-s-preserved
 loop-s-preserved c =
     let l = c.loop-s in
     let call = c.fill_street in
-    (keys-more c.args.town.accepted (omega arith) c.row.ensures l.invariant.0 call.new.keys call.auto.keys call.ensures, call.auto.keys ∙ l.invariant.1)
+    (keys-more c.requires.ranked (omega arith) c.row.ensures l.invariant.0 call.new.keys call.auto.keys call.ensures, call.auto.keys ∙ l.invariant.1)
