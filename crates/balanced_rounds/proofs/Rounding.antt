@@ -3,20 +3,24 @@
 -- Assumes nothing.
 use mathlib.Core.Path.{◌≡◌, refl, sym, ap, subst, ◌∙◌}
 use mathlib.Core.Bool.{Bool, true, false, not, ◌&&◌, and-eq-true_iff}
+use mathlib.Core.Logic.{by_cases}
 use mathlib.Core.List.{List, [], ◌∷◌, ◌++◌}
 use Prim.Native.Nat.{ℕ, zero, suc, ◌+◌, ◌*◌, ◌≤◌, ◌<◌}
+use native.Mathlib.Decide.{dec_lt}
 use native.Mathlib.Numerals.{add-one}
 use native.Mathlib.Omega.{arith}
 use lib.Dec.{ltb}
 use lib.ListN.{length, get_or, take, drop, set, replicate, length-set, length-take, length-append, length-drop, length-replicate}
 use lib.Seq.{take-suc-set, get_or-take, get_or-drop, length-take-le}
 use borrow.Author.Tests.{not-true}
-use Rattle.counting.specs.Bounds.{most_streets, most_sites}
-use Rattle.counting.specs.Lists.{at, sum}
+use Rattle.counting.specs.Bounds.{most_streets, most_sites, most_value, most_worth}
+use Rattle.counting.specs.Words.{◌unless◌}
+use Rattle.counting.specs.Lists.{at, sum, only}
 use Rattle.counting.specs.Greatest.{greatest, unchosen}
 use Rattle.counting.proofs.Greatest.{greatest-same}
 use Rattle.counting.proofs.Flagging.{flags-none, flags-more}
-use Rattle.counting.proofs.Refusals.{unless-yes}
+use Rattle.counting.proofs.Refusals.{unless-yes, unless-none}
+use Rattle.counting.proofs.Sums.{at-past}
 use Rattle.counting.proofs.Tables.{row_within}
 use Rattle.counting.proofs.Parts.{back_is}
 use Rattle.counting.proofs.Equations.{along}
@@ -54,10 +58,36 @@ lot-line : (key : ℕ → ℕ → ℕ) (n m : ℕ) (orders : List ℕ) → Order
 lot-line key n m orders o q division a e l = rw (e, ordered-only (key a) (free division) n, o a l) refl
 
 -- ---- worths
+module _ (f : ℕ → ℕ) (line division : List ℕ) (q : ℕ) where
+  -- a sum of values is at most most_value for each
+  sum-small : (L : List ℕ) → ((s : ℕ) → f s ≤ most_value) → sum f L ≤ length L * most_value
+  sum-small [] h = omega arith
+  sum-small (s ∷ L) h = omega (arith, h s, sum-small L h)
+
+  -- the worth of a share of at most 400 streets is small
+  worth-small : ((s : ℕ) → f s ≤ most_value) → q ≤ most_streets → sum f (picked line q division) ≤ most_worth
+  worth-small h few = omega (arith, sum-small (picked line q division) h, length-take q (only (free division) line))
+
+-- what is taken only where a test fails is no more than it is
+unless-small : (x bound : ℕ) (t : Bool) → x ≤ bound → (x unless t) ≤ bound
+unless-small x bound true l = omega (arith, unless-none x true refl)
+unless-small x bound false l = omega (arith, unless-yes x false refl)
+
 -- the worths of all sites, each by its line
 pub record Worths (t : Table) (division : List ℕ) (flags : List Bool) (q : ℕ) (worths : List ℕ) : Type 0 where
   pub size : length worths ≡ t.m + 1
   pub each : (a : ℕ) → a ≤ t.m → at worths a ≡ line_worth t division flags q a
+
+-- they are small
+pub worths-small : (t : Table) {division : List ℕ} {flags : List Bool} {q : ℕ} {worths : List ℕ} → Worths t division flags q worths
+    → ((i : ℕ) → at t.values.now i ≤ most_value) → q ≤ most_streets → (a : ℕ) → at worths a ≤ most_worth
+worths-small t {division} {flags} {q} {worths} h low few a =
+    by_cases (dec_lt a (t.m + 1)) (λ l. omega (arith, h.each a (omega arith), small)) (λ o. omega (arith, at-past worths a (omega (arith, h.size))))
+  where
+    small : line_worth t division flags q a ≤ most_worth
+    small =
+        unless-small _ most_worth (get_or flags a false)
+        (worth-small (λ s. value_in t.values.now t.m s a) (row_at t.n t.orders.now a) division q (λ s. low (s * (t.m + 1) + a)) few)
 
 -- the flags' choice by the worths of all lines is the choice by the definition's worths
 pub chosen-worth : (t : Table) {division : List ℕ} {flags : List Bool} {q : ℕ} {worths : List ℕ} → Worths t division flags q worths

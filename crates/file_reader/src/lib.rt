@@ -12,8 +12,8 @@ use streets::try_streets;
 use survey_file::taken::TakenFile;
 
 pub mod fields;
-mod reader;
-mod records;
+pub mod reader;
+pub mod records;
 mod streets;
 
 // A whole file: what its first record gives, or its first refusal.

@@ -29,7 +29,7 @@ impl<'a> Reader<'a> {
     }
 
     // The reader past so many bytes more, which are still within the file.
-    fn past(self, size: usize) -> Self
+    pub fn past(self, size: usize) -> Self
         requires { self.count + size ≤ length self.file.now }
         ensures { (result.count ≤ length result.file.now) × (left result ≡ drop size (left self.entry)) }
     {
@@ -40,7 +40,7 @@ impl<'a> Reader<'a> {
     }
 
     // The record that is due where the reader stands.
-    fn next(self, due: Due) -> Result<Record, Refusal>
+    pub fn next(self, due: Due) -> Result<Record, Refusal>
         requires { self.count ≤ length self.file.now }
         ensures { Reads result (record_refusal due (left self.entry)) (fields_of due (left self.entry)) }
     {

@@ -139,6 +139,8 @@ fn try_own(
 }
 
 // What a hand plan is tried for behind its survey: its loads, its sites from the lowest one allowed, the 18 of its kind, the limits, and the claim.
+// Its counts and sums lie on the stack only once the survey's check has left it.
+#[inline(never)]
 fn try_sent(
     town: AcceptedTown<'_>,
     k: usize,

@@ -13,8 +13,8 @@ mod table;
 // The quotients of the numbers from 1 to 64.
 #[derive(Drop)]
 pub struct Quotients {
-    rows: [[u8; SITES]; SITES],
-    ghost right: { is_table rows ≡ true },
+    pub rows: [[u8; SITES]; SITES],
+    pub ghost right: { is_table rows ≡ true },
 }
 
 impl Quotients {
