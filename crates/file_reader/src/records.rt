@@ -130,7 +130,8 @@ fn record_in(rest: &[u8], due: Due) -> Result<Record, Refusal>
     }
 }
 
-// The record that is due at an index of a file.
+// The record that is due at an index of a file. It is thin: in its callers' frames it takes no stack of its own.
+#[inline(always)]
 pub fn record_at(file: &[u8], at: usize, due: Due) -> Result<Record, Refusal>
     requires { at ≤ length file.now }
     ensures { Reads result (record_refusal due (drop at file.now)) (fields_of due (drop at file.now)) }
