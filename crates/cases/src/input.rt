@@ -1,6 +1,6 @@
 // The input of the cases: decimal numbers, which every other byte only separates. A list is its length, a count, and that many values, which stand
 // first in the list, before zeros. No case has a list that is longer than its buffer.
-ghost use Rattle.std.specs.Prelude.{◌≤◌};
+ghost use Rattle.std.specs.Prelude.{◌≤◌, IfOk, length};
 
 use planner::Town;
 use std::io::{self, Read};
@@ -82,7 +82,9 @@ fn within(number: usize, most: usize) -> usize
 }
 
 // The next list, in a buffer of zeros.
-pub fn list<'a, T: Entry>(reader: &mut impl Read, buffer: &'a mut [T]) -> io::Result<&'a mut [T]> {
+pub fn list<'a, T: Entry>(reader: &mut impl Read, buffer: &'a mut [T]) -> io::Result<&'a mut [T]>
+    ensures { IfOk result (λ x. length x.now ≤ length buffer.old) }
+{
     let len = within(number(reader)?, buffer.len());
     let count = within(number(reader)?, buffer.len());
     for place in buffer[..count].iter_mut() {
@@ -92,7 +94,9 @@ pub fn list<'a, T: Entry>(reader: &mut impl Read, buffer: &'a mut [T]) -> io::Re
 }
 
 // A list of one value over and over. A longer one than fits is never looked at: then the streets or sites are too many.
-fn same<T: Copy>(each: T, len: usize, buffer: &mut [T]) -> &mut [T] {
+fn same<T: Copy>(each: T, len: usize, buffer: &mut [T]) -> &mut [T]
+    ensures { length result.now ≤ length buffer.old }
+{
     for place in buffer.iter_mut() {
         *place = each;
     }
@@ -106,7 +110,9 @@ pub fn weights_of<'a>(
     weighed: bool,
     n: usize,
     buffer: &'a mut [u8],
-) -> io::Result<&'a mut [u8]> {
+) -> io::Result<&'a mut [u8]>
+    ensures { IfOk result (λ x. length x.now ≤ length buffer.old) }
+{
     if weighed {
         return list(reader, buffer);
     }
@@ -120,7 +126,9 @@ pub fn loads_of<'a>(
     each: u32,
     len: usize,
     buffer: &'a mut [u32],
-) -> io::Result<&'a mut [u32]> {
+) -> io::Result<&'a mut [u32]>
+    ensures { IfOk result (λ x. length x.now ≤ length buffer.old) }
+{
     if loaded {
         return list(reader, buffer);
     }

@@ -82,5 +82,9 @@ pub fn list_length(town: Town, s: usize) -> usize
 pub fn streets_of(division: [u8; STREETS], n: usize, site: u8) -> usize
     requires { n ≤ 8 }
 {
-    division[..n].iter().filter(|own| **own == site).count()
+    let mut count = 0;
+    for own in &division[..n] {
+        count += usize::from(*own == site);
+    }
+    count
 }

@@ -58,9 +58,9 @@ impl Answers {
         }
     }
 
-    // How many right answers there were.
+    // How many answers of a call were compared.
     fn compared(self) -> u64 {
-        let mut sum = self.accepted;
+        let mut sum = self.accepted.saturating_add(self.different);
         for times in self.refused {
             sum = sum.saturating_add(times);
         }

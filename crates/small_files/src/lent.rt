@@ -8,7 +8,7 @@ pub const UNTOUCHED: u8 = 255;
 
 pub const UNSCORED: u16 = 65535;
 
-// Whether a buffer holds these values, and behind them what it held before the call.
-pub fn holds<T: Copy + PartialEq>(buffer: &[T], front: &[T], untouched: T) -> bool {
-    buffer.starts_with(front) && buffer.iter().skip(front.len()).all(|x| *x == untouched)
+// Whether a buffer holds these values, and behind them what it held before the call, of which there are to be as many as the buffer has at least.
+pub fn holds<T: PartialEq>(buffer: &[T], front: &[T], untouched: &[T]) -> bool {
+    buffer.starts_with(front) && untouched.starts_with(&buffer[front.len()..])
 }

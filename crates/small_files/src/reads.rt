@@ -42,16 +42,16 @@ fn is_filled(held: Filed, scores: &[u16], weights: &[u8], rows: &[u8]) -> bool
         rows: right_rows,
         ..
     } = held.town;
-    lent::holds(scores, &right_scores[..m], UNSCORED)
-        && lent::holds(weights, &right_weights[..n], UNTOUCHED)
-        && lent::holds(rows, &right_rows[..len], UNTOUCHED)
+    lent::holds(scores, &right_scores[..m], &[UNSCORED; SCORES + 1])
+        && lent::holds(weights, &right_weights[..n], &[UNTOUCHED; WEIGHTS + 1])
+        && lent::holds(rows, &right_rows[..len], &[UNTOUCHED; ROWS + 1])
 }
 
 // Whether the reader's buffers hold what they held before the call.
 fn is_untouched(scores: &[u16], weights: &[u8], rows: &[u8]) -> bool {
-    lent::holds(scores, &[], UNSCORED)
-        && lent::holds(weights, &[], UNTOUCHED)
-        && lent::holds(rows, &[], UNTOUCHED)
+    lent::holds(scores, &[], &[UNSCORED; SCORES + 1])
+        && lent::holds(weights, &[], &[UNTOUCHED; WEIGHTS + 1])
+        && lent::holds(rows, &[], &[UNTOUCHED; ROWS + 1])
 }
 
 // What the reader makes of a file: it tells and fills in what the file holds, or leaves the buffers as they were.

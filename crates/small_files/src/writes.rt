@@ -12,8 +12,8 @@ use planner::Refusal;
 // What an answer and its buffer come to: the right file and its length, or a buffer as it was.
 pub fn outcome(answer: Result<u32, Refusal>, buffer: &[u8], right: &[u8]) -> Outcome {
     let is_right = match answer {
-        Ok(size) => size as usize == right.len() && lent::holds(buffer, right, UNTOUCHED),
-        Err(_) => lent::holds(buffer, &[], UNTOUCHED),
+        Ok(size) => size as usize == right.len() && lent::holds(buffer, right, &[UNTOUCHED; FILE]),
+        Err(_) => lent::holds(buffer, &[], &[UNTOUCHED; FILE]),
     };
     counts::outcome(answer, is_right)
 }

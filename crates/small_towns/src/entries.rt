@@ -1,5 +1,5 @@
 // The entries, each called for a small town: what it gives, with the buffers that it was lent.
-ghost use Rattle.std.specs.Prelude.{◌≤◌};
+ghost use Rattle.std.specs.Prelude.{◌≤◌, length};
 ghost use Rattle.drawn_towns.specs.Sized.{Sized};
 ghost use Rattle.drawn_towns.specs.Small.{Small};
 
@@ -104,7 +104,9 @@ pub fn check(town: Town) -> Given
 }
 
 // The buffer that is lent of a list: all of it, or one entry fewer.
-fn part(list: &[u32], is_short: bool) -> &[u32] {
+fn part(list: &[u32], is_short: bool) -> &[u32]
+    ensures { length result.now ≤ length list.now }
+{
     if is_short {
         return &list[..list.len().saturating_sub(1)];
     }
