@@ -48,7 +48,7 @@
 //! Streets and sites are numbered from 1, and site 0 is no site.
 //!
 //! # Stack and threads
-//! A balanced plan needs 286 KB of stack, a free one 60 KB, and any call that refuses 13 KB, which the main thread and the threads of
+//! A balanced plan needs 286 KB of stack, a free one 60 KB, and any call that refuses 11 KB, which the main thread and the threads of
 //! [`std::thread`] have; a thread that is made with less should have half a megabyte. No call keeps anything for the next: any number of
 //! threads may call at once, and every type here can be sent to another thread and shared.
 //!
