@@ -3,6 +3,7 @@ use crate::input::{BYTES, SCORES, Survey, WEIGHTS};
 use crate::{input, say};
 use planner::{Refusal, Sizes};
 use std::io::{self, Read, Write};
+use streams::print_number;
 
 // The form of a file: 0 for the old one, any other number for the new one.
 fn form(reader: &mut impl Read) -> io::Result<bool> {
@@ -44,13 +45,16 @@ fn say_read(out: &mut impl Write, answer: Result<Sizes, Refusal>, weighed: bool)
                 new_form,
             },
         ) => {
-            write!(out, " streets {n} sites {m} chosen {k} kind {kind}")?;
+            print_number(out, b" streets ", n as u64)?;
+            print_number(out, b" sites ", m as u64)?;
+            print_number(out, b" chosen ", k as u64)?;
+            print_number(out, b" kind ", kind as u64)?;
             if weighed {
-                write!(out, " form {}", u8::from(new_form))?;
+                print_number(out, b" form ", u64::from(new_form))?;
             }
             Ok(())
         }
-        Err(refusal) => write!(out, " {refusal}"),
+        Err(refusal) => say::refused(out, refusal),
     }
 }
 

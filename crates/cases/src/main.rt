@@ -114,7 +114,7 @@ fn main(rt: HostRuntime) -> io::Result<()> {
         let Some((command, weighed)) = command_of(number) else {
             return out.write_all(b"unknown command\n");
         };
-        write!(out, "{case}")?;
+        streams::print_decimal(&mut out, case as u64)?;
         answered(&mut reader, &mut out, command, weighed)?;
         out.write_all(b"\n")?;
     }

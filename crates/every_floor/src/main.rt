@@ -110,5 +110,5 @@ fn main(rt: HostRuntime) -> io::Result<()> {
     full_towns::fill_scores(&mut scores);
     full_towns::fill_weights(&mut weights);
     let right = all_floors(&scores, &weights, &mut rows);
-    writeln!(io::writer(&rt), "right floors {right}")
+    streams::print_line(&mut io::writer(&rt), b"right floors ", right)
 }

@@ -4,6 +4,7 @@
 
 use planner::{Refusal, Sizes, Town};
 use std::io::{self, Write};
+use streams::print_line;
 
 // the bytes of the longest file of each form
 const OLD: usize = 27739;
@@ -18,11 +19,16 @@ fn differences(a: &[u8], b: &[u8]) -> usize {
     a.iter().zip(b).filter(|(x, y)| **x != **y).count()
 }
 
+// Why a call refuses.
+fn say_refused(out: &mut impl Write, refusal: Refusal) -> io::Result<()> {
+    print_line(out, b"refused ", u64::from(refusal.number()))
+}
+
 // The answer of the writer or the converter.
 fn say_made(out: &mut impl Write, answer: Result<u32, Refusal>) -> io::Result<()> {
     match answer {
-        Ok(bytes) => writeln!(out, "bytes {bytes}"),
-        Err(refusal) => writeln!(out, "{refusal}"),
+        Ok(bytes) => print_line(out, b"bytes ", u64::from(bytes)),
+        Err(refusal) => say_refused(out, refusal),
     }
 }
 
@@ -38,13 +44,13 @@ fn say_read(out: &mut impl Write, answer: Result<Sizes, Refusal>) -> io::Result<
                 new_form,
             },
         ) => {
-            writeln!(out, "streets {n}")?;
-            writeln!(out, "sites {m}")?;
-            writeln!(out, "chosen {k}")?;
-            writeln!(out, "kind {kind}")?;
-            writeln!(out, "form {}", u8::from(new_form))
+            print_line(out, b"streets ", n as u64)?;
+            print_line(out, b"sites ", m as u64)?;
+            print_line(out, b"chosen ", k as u64)?;
+            print_line(out, b"kind ", kind as u64)?;
+            print_line(out, b"form ", u64::from(new_form))
         }
-        Err(refusal) => writeln!(out, "{refusal}"),
+        Err(refusal) => say_refused(out, refusal),
     }
 }
 
@@ -79,13 +85,21 @@ fn read_and_written(
         out,
         planner::write_file(full_town(&table, &counted, &back), 64, 1, new_form, again),
     )?;
-    writeln!(
+    print_line(
         out,
-        "weights that differ {}",
-        differences(weights, &counted)
+        b"weights that differ ",
+        differences(weights, &counted) as u64,
     )?;
-    writeln!(out, "row bytes that differ {}", differences(rows, &back))?;
-    writeln!(out, "file bytes that differ {}", differences(file, again))
+    print_line(
+        out,
+        b"row bytes that differ ",
+        differences(rows, &back) as u64,
+    )?;
+    print_line(
+        out,
+        b"file bytes that differ ",
+        differences(file, again) as u64,
+    )
 }
 
 // The longest file of the old form: converted, it has all weights 1, and conversion back gives the bytes one began with.
@@ -102,7 +116,11 @@ fn old_file(out: &mut impl Write, scores: &[u16], rows: &[u8]) -> io::Result<()>
     read_and_written(out, false, &file, &weights, rows, &mut again)?;
     say_made(out, planner::convert_file(&file, true, &mut other))?;
     say_made(out, planner::convert_file(&other, false, &mut back))?;
-    writeln!(out, "file bytes that differ {}", differences(&file, &back))
+    print_line(
+        out,
+        b"file bytes that differ ",
+        differences(&file, &back) as u64,
+    )
 }
 
 // The longest file: converted to its own form it comes out as it is, and an old one would lose its weights.
@@ -119,7 +137,11 @@ fn new_file(out: &mut impl Write, scores: &[u16], rows: &[u8]) -> io::Result<()>
     )?;
     read_and_written(out, true, &file, &weights, rows, &mut again)?;
     say_made(out, planner::convert_file(&file, true, &mut own))?;
-    writeln!(out, "file bytes that differ {}", differences(&file, &own))?;
+    print_line(
+        out,
+        b"file bytes that differ ",
+        differences(&file, &own) as u64,
+    )?;
     say_made(out, planner::convert_file(&file, false, &mut other))
 }
 

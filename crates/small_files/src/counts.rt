@@ -1,6 +1,7 @@
 // How often each answer of each call came, and how many answers were not the right ones.
 use planner::Refusal;
 use std::io::{self, Write};
+use streams::{print_line, print_number};
 
 // the numbers of refusals are below this
 const NUMBERS: usize = 26;
@@ -67,13 +68,14 @@ impl Answers {
         sum
     }
 
-    // The lines of a call.
-    fn lines(self, out: &mut impl Write, call: &str) -> io::Result<()> {
-        writeln!(out, "answers of the {call} {}", self.compared())?;
-        writeln!(out, "accepted: {}", self.accepted)?;
+    // The lines of a call, the first of which begins with a word.
+    fn lines(self, out: &mut impl Write, word: &[u8]) -> io::Result<()> {
+        print_line(out, word, self.compared())?;
+        print_line(out, b"accepted: ", self.accepted)?;
         for (number, times) in self.refused.iter().enumerate() {
             if *times != 0 {
-                writeln!(out, "refused {number}: {times}")?;
+                print_number(out, b"refused ", number as u64)?;
+                print_line(out, b": ", *times)?;
             }
         }
         Ok(())
@@ -100,14 +102,14 @@ impl Counts {
 
     // The lines of all calls, and the differences.
     pub fn lines(self, out: &mut impl Write) -> io::Result<()> {
-        self.writer.lines(out, "writer")?;
-        self.reader.lines(out, "reader")?;
-        self.converter.lines(out, "converter")?;
+        self.writer.lines(out, b"answers of the writer ")?;
+        self.reader.lines(out, b"answers of the reader ")?;
+        self.converter.lines(out, b"answers of the converter ")?;
         let differences = self
             .writer
             .different
             .saturating_add(self.reader.different)
             .saturating_add(self.converter.different);
-        writeln!(out, "differences {differences}")
+        print_line(out, b"differences ", differences)
     }
 }

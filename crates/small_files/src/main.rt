@@ -69,6 +69,6 @@ fn main(rt: HostRuntime) -> io::Result<()> {
     let mut counts = Counts::none();
     run(&mut counts);
     let mut out = io::writer(&rt);
-    writeln!(out, "towns {TOWNS}")?;
+    streams::print_line(&mut out, b"towns ", TOWNS as u64)?;
     counts.lines(&mut out)
 }

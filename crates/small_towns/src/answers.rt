@@ -6,6 +6,7 @@ use crate::say;
 use drawn_towns::{SITES, STREETS, Town};
 use planner::Refusal;
 use std::io::{self, Write};
+use streams::print_line;
 
 // what stands in a buffer before a call
 pub const UNTOUCHED: u8 = 255;
@@ -53,15 +54,16 @@ impl Given {
     }
 
     // The lines of what is given for n streets and k sites, the first of which begins with a word.
-    fn lines(self, out: &mut impl Write, word: &str, n: usize, k: usize) -> io::Result<()>
+    fn lines(self, out: &mut impl Write, word: &[u8], n: usize, k: usize) -> io::Result<()>
         requires { (n ≤ 8) × (k ≤ 5) }
     {
+        out.write_all(word)?;
         match self.answer {
-            Ok(total) => writeln!(out, "{word} total {total}")?,
-            Err(number) => writeln!(out, "{word} refused {number}")?,
+            Ok(total) => print_line(out, b" total ", u64::from(total))?,
+            Err(number) => print_line(out, b" refused ", u64::from(number))?,
         }
-        say::list_line(out, "division", &self.division[..n])?;
-        say::list_line(out, "chosen", &self.chosen[..k])
+        say::list_line(out, b"division", &self.division[..n])?;
+        say::list_line(out, b"chosen", &self.chosen[..k])
     }
 }
 
@@ -81,8 +83,8 @@ pub fn wrong(
     }
     if shown {
         say::town_lines(out, town)?;
-        given.lines(out, "given", town.n, town.k)?;
-        right.lines(out, "right", town.n, town.k)?;
+        given.lines(out, b"given", town.n, town.k)?;
+        right.lines(out, b"right", town.n, town.k)?;
     }
     Ok(1)
 }

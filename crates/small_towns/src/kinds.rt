@@ -7,6 +7,7 @@ use crate::load_checks::NUMBERS;
 use crate::{answers, entries, load_checks};
 use drawn_towns::{STREETS, Town, asked};
 use std::io::{self, Write};
+use streams::print_line;
 
 // How many answers about a plan and a hand plan of the wrong kind that has its turn are wrong. The number that is right is counted.
 pub fn wrong_kinds(
@@ -38,13 +39,13 @@ pub fn wrong_kinds(
 // The lines that say which numbers the wrong kinds had.
 pub fn lines(out: &mut impl Write, numbers: [u64; NUMBERS]) -> io::Result<()> {
     let all = load_checks::all(numbers);
-    writeln!(out, "wrong kinds, of a plan and of a hand plan {all}")?;
-    writeln!(out, "of these, refused for the streets {}", numbers[1])?;
-    writeln!(out, "of these, refused for the sites {}", numbers[2])?;
-    writeln!(
+    print_line(out, b"wrong kinds, of a plan and of a hand plan ", all)?;
+    print_line(out, b"of these, refused for the streets ", numbers[1])?;
+    print_line(out, b"of these, refused for the sites ", numbers[2])?;
+    print_line(
         out,
-        "of these, refused for the sites to choose {}",
-        numbers[3]
+        b"of these, refused for the sites to choose ",
+        numbers[3],
     )?;
-    writeln!(out, "of these, refused for the kind {}", numbers[4])
+    print_line(out, b"of these, refused for the kind ", numbers[4])
 }

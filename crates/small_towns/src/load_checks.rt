@@ -10,6 +10,7 @@ use drawn_towns::loads::Loads;
 use drawn_towns::{STREETS, Town};
 use plain_search::{hands, loads};
 use std::io::{self, Write};
+use streams::print_line;
 
 // how often each number was given is a table by that number, 0 for no refusal
 pub const NUMBERS: usize = 256;
@@ -81,18 +82,18 @@ pub fn all(numbers: [u64; NUMBERS]) -> u64 {
 // The lines that say which numbers the plans with loads had.
 pub fn lines(out: &mut impl Write, numbers: [u64; NUMBERS]) -> io::Result<()> {
     let all = all(numbers);
-    writeln!(out, "hand plans with loads {all}")?;
-    writeln!(out, "of these, passing {}", numbers[0])?;
-    writeln!(out, "of these, with a buffer too short {}", numbers[6])?;
-    writeln!(
+    print_line(out, b"hand plans with loads ", all)?;
+    print_line(out, b"of these, passing ", numbers[0])?;
+    print_line(out, b"of these, with a buffer too short ", numbers[6])?;
+    print_line(
         out,
-        "of these, with a load or limit too great {}",
-        numbers[21]
+        b"of these, with a load or limit too great ",
+        numbers[21],
     )?;
-    writeln!(
+    print_line(
         out,
-        "of these, with a site over its kilograms {}",
-        numbers[22]
+        b"of these, with a site over its kilograms ",
+        numbers[22],
     )?;
-    writeln!(out, "of these, with a site over its litres {}", numbers[23])
+    print_line(out, b"of these, with a site over its litres ", numbers[23])
 }

@@ -166,10 +166,10 @@ fn main(rt: HostRuntime) -> io::Result<()> {
     let mut out = io::writer(&rt);
     let counts = run(&mut out, &mut numbers, &mut kinds)?;
     let sizes = counts.sizes;
-    writeln!(out, "towns {TOWNS}")?;
+    streams::print_line(&mut out, b"towns ", TOWNS as u64)?;
     sizes.lines(&mut out)?;
     load_checks::lines(&mut out, numbers)?;
     kinds::lines(&mut out, kinds)?;
-    writeln!(out, "answers compared {}", counts.compared)?;
-    writeln!(out, "differences {}", counts.differences)
+    streams::print_line(&mut out, b"answers compared ", counts.compared)?;
+    streams::print_line(&mut out, b"differences ", counts.differences)
 }

@@ -2,24 +2,28 @@
 ghost use Rattle.drawn_towns.specs.Small.{Small};
 
 use drawn_towns::Town;
-use std::fmt;
 use std::io::{self, Write};
+use streams::print_number;
 
 // A line of a word and the numbers of a list.
-pub fn list_line<T: fmt::Display>(out: &mut impl Write, word: &str, list: &[T]) -> io::Result<()> {
-    write!(out, "{word}")?;
+pub fn list_line<T: Copy + Into<u64>>(
+    out: &mut impl Write,
+    word: &[u8],
+    list: &[T],
+) -> io::Result<()> {
+    out.write_all(word)?;
     for x in list {
-        write!(out, " {x}")?;
+        print_number(out, b" ", (*x).into())?;
     }
-    writeln!(out)
+    out.write_all(b"\n")
 }
 
 // A town and its list.
 pub fn town_lines(out: &mut impl Write, town: Town) -> io::Result<()>
     requires { Small town }
 {
-    list_line(out, "scores", &town.scores[..town.m])?;
-    list_line(out, "weights", &town.weights[..town.weighed])?;
-    list_line(out, "rows", &town.rows[..town.len])?;
-    list_line(out, "sites", &town.sites[..town.k])
+    list_line(out, b"scores", &town.scores[..town.m])?;
+    list_line(out, b"weights", &town.weights[..town.weighed])?;
+    list_line(out, b"rows", &town.rows[..town.len])?;
+    list_line(out, b"sites", &town.sites[..town.k])
 }

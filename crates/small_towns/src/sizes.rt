@@ -5,6 +5,7 @@ ghost use Rattle.small_towns.specs.Counted.{Counted};
 
 use drawn_towns::{SITES, STREETS, Town};
 use std::io::{self, Write};
+use streams::print_line;
 
 // 1 to 8 streets, and for each of these 1 to 5 sites to choose
 const PAIRS: usize = STREETS * SITES;
@@ -48,9 +49,9 @@ impl Sizes {
     // The lines that say it.
     pub fn lines(self, out: &mut impl Write) -> io::Result<()> {
         let pairs = self.met.iter().filter(|met| **met).count();
-        writeln!(out, "numbers of sites to choose {}", self.choices)?;
-        writeln!(out, "of these, not dividing the streets {}", self.uneven)?;
-        writeln!(out, "of these, above the streets {}", self.short)?;
-        writeln!(out, "pairs of streets and sites to choose {pairs}")
+        print_line(out, b"numbers of sites to choose ", self.choices)?;
+        print_line(out, b"of these, not dividing the streets ", self.uneven)?;
+        print_line(out, b"of these, above the streets ", self.short)?;
+        print_line(out, b"pairs of streets and sites to choose ", pairs as u64)
     }
 }

@@ -1,7 +1,7 @@
 // What every program needs of its streams: a whole input that is read into a buffer, and a number that is printed.
 #![tactic(auto)]
 
-ghost use Rattle.std.specs.Prelude.{◌<◌, length, take, IfOk, OnOk};
+ghost use Rattle.std.specs.Prelude.{◌∷◌, [], ◌++◌, ◌<◌, length, take, IfOk, OnOk};
 ghost use Rattle.std.specs.Fmt.{decimal};
 ghost use Rattle.std.specs.Io.{ReadsAtMost};
 ghost use Rattle.std.specs.Io.KnownBytes.{Appends, Consumes, IsAtEnd};
@@ -34,6 +34,22 @@ pub fn print_decimal<W: Write>(writer: &mut W, x: u64) -> io::Result<()>
     write!(writer, "{x}")
 }
 
+// Prints a word, with the blank behind it if there is to be one, and a number.
+pub fn print_number<W: Write>(writer: &mut W, word: &[u8], x: u64) -> io::Result<()>
+    ensures { OnOk result (Appends (W.contents writer.old) (W.contents writer.new) (word.now ++ decimal x)) }
+{
+    writer.write_all(word)?;
+    print_decimal(writer, x)
+}
+
+// The same, and the end of the line.
+pub fn print_line<W: Write>(writer: &mut W, word: &[u8], x: u64) -> io::Result<()>
+    ensures { OnOk result (Appends (W.contents writer.old) (W.contents writer.new) ((word.now ++ decimal x) ++ (10 ∷ []))) }
+{
+    print_number(writer, word, x)?;
+    writer.write_all(b"\n")
+}
+
 #[cfg(test)]
 mod tests {
     use super::*;
@@ -60,6 +76,16 @@ mod tests {
             text.write_all(b" ")?;
         }
         let want: &[u8] = b"0 7 10 18446744073709551615 ";
+        assert_eq!(rt; text.as_slice(), want);
+        Ok(())
+    }
+
+    #[test]
+    fn prints_lines(rt: HostRuntime) -> io::Result<()> {
+        let mut text = Vec::new(rt.alloc());
+        print_number(&mut text, b"towns ", 3000)?;
+        print_line(&mut text, b", of these ", 0)?;
+        let want: &[u8] = b"towns 3000, of these 0\n";
         assert_eq!(rt; text.as_slice(), want);
         Ok(())
     }
