@@ -75,7 +75,8 @@ fn end_in(rest: &[u8]) -> Result<Record, Refusal>
     Ok(Record::End)
 }
 
-// The record that is due, out of all bytes from its mark on.
+// The record that is due, out of all bytes from its mark on. Always inlined: an answer that is copied right behind its own stores waits for them.
+#[inline(always)]
 fn record_in(rest: &[u8], due: Due) -> Result<Record, Refusal>
     ensures { Reads result (record_refusal due rest.now) (fields_of due rest.now) }
 {

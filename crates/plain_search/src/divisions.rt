@@ -48,7 +48,7 @@ fn site_shares(town: Town) -> [usize; NUMBERS]
 }
 
 // How many streets, from the first on, come before one that is too many for its site.
-fn fitting(town: Town, mut shares: [usize; NUMBERS], division: [u8; STREETS]) -> usize
+fn fitting(town: Town, mut shares: [usize; NUMBERS], division: &[u8; STREETS]) -> usize
     requires { Small town × (length shares ≡ 6) }
     ensures { result ≤ 8 }
 {
@@ -137,7 +137,7 @@ pub fn best_division(town: Town) -> Best
     let first = Best { total: 0, division };
     let mut best = None;
     for _ in 0..DIVISIONS {
-        let streets = fitting(town, shares, division);
+        let streets = fitting(town, shares, &division);
         if streets == town.n {
             best = tried(best, town, division);
         }
