@@ -10,6 +10,7 @@ ghost use Rattle.balanced_results.specs.Begun.{Begun, Listed, sites_of};
 use crate::valued::Valued;
 use balanced_rounds::State;
 use balanced_rounds::table::Table;
+use survey::weights;
 
 // Who chooses the sites of a balanced division: the rounds, or the caller, who lists them.
 #[derive(Clone, Copy)]
@@ -30,7 +31,7 @@ fn play(valued: Valued<'_>, k: usize) -> State
     let mut orders = [0u16; counting::ENTRIES];
     let keys = &mut keys[..size];
     let orders = &mut orders[..size];
-    tables::keys::fill_for_rounds(town, valued.values, keys);
+    tables::keys::fill_for_rounds(town, valued.values, weights::even(town.weights), keys);
     orders::fill_orders(keys, town.n, town.m, orders);
     let table = Table {
         n: town.n,

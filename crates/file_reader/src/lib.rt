@@ -14,7 +14,7 @@ use survey_file::taken::TakenFile;
 pub mod fields;
 pub mod reader;
 pub mod records;
-mod streets;
+pub mod streets;
 
 // A whole file: what its first record gives, or its first refusal.
 pub fn check<'a>(file: &'a [u8]) -> Result<TakenFile<'a>, Refusal>

@@ -23,7 +23,8 @@ pub struct Reader<'a> {
 impl<'a> Reader<'a> {
     // A reader that has read nothing yet.
     pub fn new(file: &'a [u8]) -> Self
-        ensures { (result.count ≤ length result.file.now) × (left result ≡ file.now) }
+        ensures begins { (result.file ≡ file.entry) × (result.count ≡ 0) }
+        ensures all_left { (result.count ≤ length result.file.now) × (left result ≡ file.now) }
     {
         Self { file, count: 0 }
     }
@@ -31,7 +32,8 @@ impl<'a> Reader<'a> {
     // The reader past so many bytes more, which are still within the file.
     pub fn past(self, size: usize) -> Self
         requires { self.count + size ≤ length self.file.now }
-        ensures { (result.count ≤ length result.file.now) × (left result ≡ drop size (left self.entry)) }
+        ensures moved { (result.file ≡ self.entry.file) × (result.count ≡ self.entry.count + size) }
+        ensures rest { (result.count ≤ length result.file.now) × (left result ≡ drop size (left self.entry)) }
     {
         Self {
             file: self.file,

@@ -75,7 +75,8 @@ fn end_in(rest: &[u8]) -> Result<Record, Refusal>
     Ok(Record::End)
 }
 
-// The record that is due, out of all bytes from its mark on. Always inlined: an answer that is copied right behind its own stores waits for them.
+// The record that is due, out of all bytes from its mark on. Always inlined, so that a street's answer stays in registers: stored and then copied up in
+// other parts, each copy waits for the stores.
 #[inline(always)]
 fn record_in(rest: &[u8], due: Due) -> Result<Record, Refusal>
     ensures { Reads result (record_refusal due rest.now) (fields_of due rest.now) }
@@ -131,7 +132,7 @@ fn record_in(rest: &[u8], due: Due) -> Result<Record, Refusal>
     }
 }
 
-// The record that is due at an index of a file. It is thin: in its callers' frames it takes no stack of its own.
+// The record that is due at an index of a file. Always inlined, as what it calls.
 #[inline(always)]
 pub fn record_at(file: &[u8], at: usize, due: Due) -> Result<Record, Refusal>
     requires { at ≤ length file.now }

@@ -7,7 +7,7 @@ use crate::records;
 use crate::records::{Due, Record};
 use call_answers::Refusal;
 
-// The n street records from an index on, and the end behind them. Never inlined: its callers' frames need no room for a record.
+// The n street records from an index on, and the end behind them. Never inlined: what the streets' records take of the stack, its callers don't keep.
 #[inline(never)]
 pub fn try_streets(file: &[u8], from: usize, n: usize, m: usize) -> Result<(), Refusal>
     requires { from ≤ length file.now }

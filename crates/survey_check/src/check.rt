@@ -126,7 +126,7 @@ fn try_street(town: Town<'_>, bits: &[u64; 256], s: usize) -> Result<(), Refusal
 }
 
 // The rows, by street and byte.
-fn try_rows(town: Town<'_>) -> Result<(), Refusal>
+pub fn try_rows(town: Town<'_>) -> Result<(), Refusal>
     requires rows_held { town.n * town.m ≤ length town.rows.now }
     requires few_sites { town.m ≤ most_sites }
     ensures { number result ≡ rows_refusal town.entry.n town.entry.m town.entry.rows.now }

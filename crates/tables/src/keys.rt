@@ -1,19 +1,18 @@
 // The table of keys by which a balanced round orders the streets for a site, filled once from the rows of a survey.
 // It is by site: a row of n keys for each of the sites 0, 1, .., m. They are keys by place, and where streets have household weights these are
 // weighed afterwards, from the table of values.
-ghost use Rattle.std.specs.Prelude.{◌≡◌, ℕ, suc, ◌+◌, ◌-◌, ◌*◌, ◌≤◌, ◌<◌, length};
+ghost use Rattle.std.specs.Prelude.{true, ◌≡◌, ℕ, suc, ◌+◌, ◌-◌, ◌*◌, ◌≤◌, ◌<◌, length};
 ghost use Rattle.counting.specs.Bounds.{most_sites, most_value};
 ghost use Rattle.counting.specs.Words.{◌or_else◌};
 ghost use Rattle.counting.specs.Lists.{at, cell};
 ghost use Rattle.counting.specs.Buffers.{Mapped};
-ghost use Rattle.survey.specs.Rows.{Even};
 ghost use Rattle.survey.specs.Accepted.{SoundRow};
 ghost use Rattle.tables.specs.Entries.{Ranked, by_site, Room, Unread, Entered};
 ghost use Rattle.tables.specs.Tables.{StreetTable, value_in};
 ghost use Rattle.tables.specs.RoundKeys.{row_key, round_key};
 ghost use Rattle.balanced_plan.specs.Falling.{FallsBy, CompareAlike};
 
-use survey::{Town, weights};
+use survey::Town;
 
 // No value is above it: a score of at most 1,000 times a weight of at most 99.
 const MOST_VALUE: u32 = 99000;
@@ -77,16 +76,16 @@ fn weigh_keys(values: &[u32], n: usize, m: usize, keys: &mut [u32])
 
 // The keys by which the rounds order the streets: by counted score and then by place. Where the values fall with the places, as they do if all streets
 // have the same weight, the keys by place give the same order, and they are small.
-pub fn fill_for_rounds(town: Town<'_>, values: &[u32], keys: &mut [u32])
+pub fn fill_for_rounds(town: Town<'_>, values: &[u32], even: bool, keys: &mut [u32])
     requires ranked { Ranked town.n town.m town.rows.now }
     requires street_table { StreetTable town.n town.m values.now }
-    requires falls { Even town.weights.now → FallsBy (row_key town.m town.rows.now) (value_in values.now town.m) town.n town.m }
+    requires falls { even ≡ true → FallsBy (row_key town.m town.rows.now) (value_in values.now town.m) town.n town.m }
     requires keys_len { length keys.old ≡ (town.m + 1) * town.n }
     ensures { CompareAlike (cell keys.new town.entry.n) (round_key (value_in values.now town.entry.m) town.entry.m town.entry.rows.now)
         town.entry.n town.entry.m }
 {
     fill_keys(town, keys);
-    if !weights::even(town.weights) {
+    if !even {
         weigh_keys(values, town.n, town.m, keys);
     }
 }

@@ -20,4 +20,4 @@ returns-else-not-even c =
     let placed : List ℕ = c.fill_keys.new.keys in
     let t = c.args.town in
     let p = c.requires in
-    places-alike t.rows.now placed c.fill_keys.ensures c.args.values.now p.street_table (p.falls (c.even.ensures c.if-not-even.false))
+    places-alike t.rows.now placed c.fill_keys.ensures c.args.values.now p.street_table (p.falls c.if-not-even.false)
