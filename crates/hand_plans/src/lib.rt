@@ -1,7 +1,7 @@
 // The test of a hand-made plan: the refusal that turns it down, and none where it passes.
 #![tactic(auto, using(call_answers::proofs::Refused::tries, counting::proofs::Refusals::chain))]
 
-ghost use Rattle.std.specs.Prelude.{◌≡◌, ◌≤◌, ◌<◌, IfOk, suc, length, count_by};
+ghost use Rattle.std.specs.Prelude.{◌≡◌, [], ◌≤◌, ◌<◌, IfOk, suc, length, count_by};
 ghost use Rattle.counting.specs.Bounds.{most_streets, most_sites};
 ghost use Rattle.counting.specs.Words.{◌or_else◌, count_of};
 ghost use Rattle.counting.specs.Lists.{at};
@@ -24,15 +24,14 @@ use survey::accepted::AcceptedTown;
 use survey::{Kind, Town};
 use survey_check::check::{self, outside, try_length};
 
-// How many streets each site has, and how many have none, in one pass over the division.
-fn count_streets(division: &[u8]) -> [usize; 256]
-    ensures { Summed (λ s. 1) result division.now }
+// How many streets each site has, and how many have none, in one pass over the division. They are counted in a table of zeros where it lies.
+fn count_streets(division: &[u8], counts: &mut [usize; 256])
+    requires { Summed (λ s. 1) counts.old [] }
+    ensures { Summed (λ s. 1) counts.new division.now }
 {
-    let mut counts = [0usize; 256];
     for site in division {
         counts[usize::from(*site)] += 1;
     }
-    counts
 }
 
 // The numbers of streets that are within the bounds.
@@ -58,7 +57,8 @@ fn try_used(division: &[u8], m: usize, k: usize) -> Result<(), Refusal>
     requires { m ≤ most_sites }
     ensures { number result ≡ used_refusal m k division.now }
 {
-    let counts = count_streets(division);
+    let mut counts = [0usize; 256];
+    count_streets(division, &mut counts);
     Refusal::Usage.when(k < count_sites(&counts, m, 1, division.len()))
 }
 
@@ -69,7 +69,8 @@ fn try_shares(n: usize, m: usize, k: usize, division: &[u8]) -> Result<(), Refus
 {
     let q = shares::least(n, k);
     let r = shares::larger(n, k);
-    let counts = count_streets(division);
+    let mut counts = [0usize; 256];
+    count_streets(division, &mut counts);
     Refusal::Usage.when(count_sites(&counts, m, q + 1, q + 1) != r)?;
     Refusal::Usage.when(count_sites(&counts, m, q, q) != k - r)
 }

@@ -1,7 +1,7 @@
 // What a plan's streets bring to its sites, in kilograms and in litres, and what is turned down in it.
 #![tactic(auto, using(call_answers::proofs::Refused::tries, counting::proofs::Refusals::chain))]
 
-ghost use Rattle.std.specs.Prelude.{◌≡◌, ◌<◌, ◌≤◌, ltb, length};
+ghost use Rattle.std.specs.Prelude.{◌≡◌, [], ◌<◌, ◌≤◌, ltb, length};
 ghost use Rattle.counting.specs.Bounds.{most_streets, most_sites};
 ghost use Rattle.counting.specs.Words.{◌when◌, ◌or_else◌};
 ghost use Rattle.counting.specs.Lists.{at};
@@ -34,16 +34,16 @@ fn try_most(numbers: &[u32]) -> Result<(), Refusal>
     Ok(())
 }
 
-// Each site's sum, and at 0 what is brought by streets without a site, in one pass over the streets.
-fn sum_sites(division: &[u8], loads: &[u32]) -> [u32; 256]
-    requires { (length loads.now ≡ length division.now) × (length division.now ≤ most_streets) × (above_refusal loads.now ≡ 0) }
-    ensures { Summed (at loads.now) result division.now }
+// Each site's sum, and at 0 what is brought by streets without a site, in one pass over the streets. They are added to a table of zeros where it lies: one
+// that is handed up by value is copied.
+fn sum_sites(division: &[u8], loads: &[u32], sums: &mut [u32; 256])
+    requires loads { (length loads.now ≡ length division.now) × (length division.now ≤ most_streets) × (above_refusal loads.now ≡ 0) }
+    requires zeros { Summed (at loads.now) sums.old [] }
+    ensures { Summed (at loads.now) sums.new division.now }
 {
-    let mut sums = [0u32; 256];
     for (s, site) in division.iter().enumerate() {
         sums[usize::from(*site)] += loads[s];
     }
-    sums
 }
 
 impl<'a> Loads<'a> {
@@ -84,8 +84,10 @@ impl<'a> Loads<'a> {
         requires litres { (length self.litres.now ≡ length division.now) × (above_refusal self.litres.now ≡ 0) × (length self.litre_limits.now ≡ m) }
         ensures { number result ≡ limits_refusal m (loads_lent self.entry) division.now }
     {
-        let kilograms = sum_sites(division, self.kilograms);
-        let litres = sum_sites(division, self.litres);
+        let mut kilograms = [0u32; 256];
+        let mut litres = [0u32; 256];
+        sum_sites(division, self.kilograms, &mut kilograms);
+        sum_sites(division, self.litres, &mut litres);
         // kept: the new form is no plainer, since the site's number is looked up in four tables
         for a in 0..m {
             self.try_site(a, kilograms[a + 1], litres[a + 1])?;

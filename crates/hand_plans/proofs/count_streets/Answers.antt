@@ -1,11 +1,11 @@
 use Prim.Native.Nat.{◌<◌}
 use native.Mathlib.Omega.{arith}
 use Rattle.counting.specs.Lists.{at}
-use Rattle.loads.proofs.SiteSums.{summed-none, summed-room, summed-more}
+use Rattle.loads.proofs.SiteSums.{summed-room, summed-more}
 use Rattle.hand_plans.proofs.count_streets.Goals as goal
 
 pub loop-site-init : goal.loop-site-init
-loop-site-init c = summed-none (λ i. 1)
+loop-site-init c = c.requires
 
 pub overflow_add-counts : goal.overflow_add-counts
 overflow_add-counts c =
