@@ -132,7 +132,7 @@ fn record_in(rest: &[u8], due: Due) -> Result<Record, Refusal>
     }
 }
 
-// The record that is due at an index of a file. Always inlined, as what it calls.
+// The record that is due at an index of a file. Always inlined, as `record_in` is.
 #[inline(always)]
 pub fn record_at(file: &[u8], at: usize, due: Due) -> Result<Record, Refusal>
     requires { at ≤ length file.now }

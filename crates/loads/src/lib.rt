@@ -34,8 +34,8 @@ fn try_most(numbers: &[u32]) -> Result<(), Refusal>
     Ok(())
 }
 
-// Each site's sum, and at 0 what is brought by streets without a site, in one pass over the streets. They are added to a table of zeros where it lies: one
-// that is handed up by value is copied.
+// Each site's sum, and at 0 what is brought by streets without a site, in one pass over the streets. The loads are added to a table of zeros where it
+// lies: a table that is handed up by value is copied.
 fn sum_sites(division: &[u8], loads: &[u32], sums: &mut [u32; 256])
     requires loads { (length loads.now ≡ length division.now) × (length division.now ≤ most_streets) × (above_refusal loads.now ≡ 0) }
     requires zeros { Summed (at loads.now) sums.old [] }

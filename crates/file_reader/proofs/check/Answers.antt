@@ -8,7 +8,8 @@ use Rattle.file_reader.proofs.check.Goals as goal
 
 pub returns-in_err-sizes-clause-number : goal.returns-in_err-sizes-clause-number
 returns-in_err-sizes-clause-number c =
-    handed _ _ c.from_residual.ensures.1 ∙ town-stops c.args.file.now _ (c.in_err-sizes.ensures.number ∙ ap (record_refusal due.Town) c.new.ensures.all_left.1)
+    let here = c.in_err-sizes.ensures.number ∙ ap (record_refusal due.Town) c.new.ensures.all_left.1 in
+    handed _ _ c.from_residual.ensures.1 ∙ town-stops c.args.file.now _ here
 
 pub returns-in_err-behind_scores-clause-number : goal.returns-in_err-behind_scores-clause-number
 returns-in_err-behind_scores-clause-number c =

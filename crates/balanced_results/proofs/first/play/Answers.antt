@@ -10,7 +10,12 @@ pub fill_for_rounds-requires : goal.fill_for_rounds-requires
 fill_for_rounds-requires c =
     let v = c.args.valued in
     let ok = v.town.accepted in
-    record { ranked = ranked ok; street_table = street-ready ok v.filled; falls = λ even. values-fall ok v.filled (c.even.ensures even); keys_len = front_length _ most_entries (site-fits ok) }
+    record {
+      ranked = ranked ok;
+      street_table = street-ready ok v.filled;
+      falls = λ even. values-fall ok v.filled (c.even.ensures even);
+      keys_len = front_length _ most_entries (site-fits ok);
+    }
 
 pub fill_orders-requires : goal.fill_orders-requires
 fill_orders-requires c =

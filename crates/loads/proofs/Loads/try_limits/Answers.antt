@@ -1,9 +1,9 @@
 use borrow.Author.Rules.{rules}
 use native.Mathlib.Omega.{arith}
+use Rattle.counting.specs.Lists.{at}
 use Rattle.counting.proofs.Refusals.{first-quiet}
 use Rattle.call_answers.proofs.Refused.{loop-error}
 use Rattle.loads.specs.Loads.{loads_lent}
-use Rattle.counting.specs.Lists.{at}
 use Rattle.loads.proofs.SiteSums.{summed-none}
 use Rattle.loads.proofs.Limits.{site-tried}
 use Rattle.loads.proofs.Loads.try_limits.Goals as goal
